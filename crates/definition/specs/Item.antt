@@ -1,0 +1,90 @@
+-- Items: what one step gives, and the sixteen numbers that a record holds.
+use Prim.Native.Nat.{ℕ, _+_}
+use Prim.Native.String.{String}
+use mathlib.Core.Bool.{Bool, true, false}
+use mathlib.Core.List.{List, [], _∷_, _++_}
+use lib.ListN.{length}
+use Rattle.definition.specs.Basics.{Bytes}
+use Rattle.definition.specs.Position.{cur-pos}
+use Rattle.definition.specs.Kinds.{kind}
+use Rattle.definition.specs.State.{ended}
+use Rattle.definition.specs.declared.Pos.{Pos}
+use Rattle.definition.specs.declared.State.{State}
+use Rattle.definition.specs.declared.Item.{Item}
+use Rattle.definition.specs.declared.Extra.{Extra}
+use Rattle.definition.specs.declared.Extra.the-variants.{NoExtra, CharLit, Blob, LexError, Comment}
+
+-- what one step gives: an item, its payload's bytes, and the state after it
+pub record Step : Type 0 where
+  pub item : Item
+  pub payload : Bytes
+  pub next : State
+
+-- ---- the kinds of items
+
+-- `tok`
+abbrev pub tok : ℕ → Bytes → Pos → Pos → Extra → State → Step
+tok k text sp ep extra next = record {
+  item = record { kind = k; sp = sp; ep = ep; length = length text; comments = next .comments; extra = extra };
+  payload = text;
+  next = next;
+}
+
+-- a token with a blob: the payload is its name and then its contents
+abbrev pub blob-tok : ℕ → Bytes → Bytes → Pos → Pos → Pos → Pos → State → Step
+blob-tok k name contents sp ep pos snap next = record {
+  item = record {
+    kind = k; sp = sp; ep = ep; length = length name; comments = next .comments;
+    extra = Blob (length contents) pos snap;
+  };
+  payload = name ++ contents;
+  next = next;
+}
+
+-- `lex_error` and the ERROR token of `lex_all`: "ERROR sits where reading stopped"; st is the state there
+abbrev pub lex-error : Bytes → State → ℕ → Bytes → Pos → Pos → Step
+lex-error s st number text from to = tok (kind "ERROR") text (cur-pos s st) (cur-pos s st) (LexError number from to) (ended st)
+
+-- `add_comment`: next is the state after the comment, which counts it already; closed says whether its end stood in the text
+abbrev pub add-comment : Bytes → Pos → Pos → Bool → State → Step
+add-comment text sp ep closed next = tok 0 text sp ep (Comment closed) next
+
+-- ---- the sixteen numbers
+
+abbrev pub record-size : ℕ
+record-size = 16
+
+-- word 0: 1 for a token, 2 for a comment
+abbrev pub sort-of : Extra → ℕ
+sort-of NoExtra = 1
+sort-of (CharLit c) = 1
+sort-of (Blob n p q) = 1
+sort-of (LexError n p q) = 1
+sort-of (Comment b) = 2
+
+-- a mark's number: "for a comment 1 closed, 0 unclosed"
+abbrev pub mark : Bool → ℕ
+mark true = 1
+mark false = 0
+
+-- words 9 to 15
+abbrev pub extra-words : Extra → List ℕ
+extra-words NoExtra = 0 ∷ 0 ∷ 0 ∷ 0 ∷ 0 ∷ 0 ∷ 0 ∷ []
+extra-words (CharLit c) = 1 ∷ c ∷ 0 ∷ 0 ∷ 0 ∷ 0 ∷ 0 ∷ []
+extra-words (Blob n pos snap) = 2 ∷ n ∷ pos .line ∷ pos .col ∷ snap .line ∷ snap .col ∷ 0 ∷ []
+extra-words (LexError n from to) = 3 ∷ n ∷ from .line ∷ from .col ∷ to .line ∷ to .col ∷ 0 ∷ []
+extra-words (Comment closed) = mark closed ∷ 0 ∷ 0 ∷ 0 ∷ 0 ∷ 0 ∷ 0 ∷ []
+
+-- the numbers of an item whose payload begins at byte `used` of the payload buffer
+abbrev pub words : Item → ℕ → List ℕ
+words t used =
+    sort-of (t .extra)
+    ∷ t .kind
+    ∷ t .sp .line
+    ∷ t .sp .col
+    ∷ t .ep .line
+    ∷ t .ep .col
+    ∷ used
+    ∷ t .length
+    ∷ t .comments
+    ∷ extra-words (t .extra)

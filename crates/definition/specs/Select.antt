@@ -1,0 +1,129 @@
+-- `select`: what is chosen at an offset. Its 50 places are the `try_` calls of the source, in their order.
+-- s is the text, f the class file, i an offset.
+use Prim.Native.Nat.{ℕ, suc, _+_}
+use Prim.Native.Char.{Char}
+use Prim.Native.String.{String}
+use mathlib.Core.Bool.{Bool, true, false, _||_}
+use mathlib.Core.List.{List, [], _∷_}
+use lib.Dec.{ltb, leb, eqb}
+use Rattle.definition.specs.Basics.{Bytes, ch, codes, mem-cp, if_then_else_}
+use Rattle.definition.specs.Text.{char-has, byte-is, star}
+use Rattle.definition.specs.Chars.{ascii-limit, is-digit, is-anywhite, is-op-char, is-symbolchar, is-uoperator}
+use Rattle.definition.specs.Tables.{Entry, cps, early-literals, kw-op-rules, op-tokens, mixfix-rules}
+use Rattle.definition.specs.Matchers.{
+  _then_, later, max-list, only, one, match-lit, plus, match-newline, match-ident, match-constructor, match-char-lit,
+  any-integer-ends, match-int-suffix, match-int-usuffix, match-real, match-bad-number, match-backtick-ident
+}
+use Rattle.definition.specs.declared.Choice.{Choice}
+use Rattle.definition.specs.declared.Match.{Match}
+use Rattle.definition.specs.declared.Match.the-variants.{To, Nothing}
+
+-- ---- the best so far
+
+-- nothing is chosen yet (`RAny`)
+abbrev pub none-at : ℕ → Choice
+none-at i = record { place = 0; end = i; word = 0 }
+
+-- `try_`: "if e > i && e > !best_e". An end that is chosen is past i, and so is one that replaces it
+unfoldable pub keep : Choice → Choice → Choice
+keep best new = if ltb (best .end) (new .end) then new else best
+
+-- what a matcher's end is at a place, for a word of its table (0 where it has none)
+abbrev pub found : ℕ → ℕ → ℕ → Match → Choice
+found i place word (To e) = record { place = place; end = e; word = word }
+found i place word Nothing = none-at i
+
+-- `List.iter`: each word of a table is tried in turn, from word number w on. The source looks up only the words that begin
+-- with the character at i; no other could match
+unfoldable pub try-words : ℕ → ℕ → (Bytes → Match) → ℕ → List Entry → Choice → Choice
+try-words i place m w [] best = best
+try-words i place m w (e ∷ es) best = try-words i place m (suc w) es (keep best (found i place w (m (cps (e .0)))))
+
+-- each place is tried in turn
+unfoldable pub try-all : List Choice → Choice → Choice
+try-all [] best = best
+try-all (p ∷ ps) best = try-all ps (keep best p)
+
+-- ---- the places
+
+-- one of the characters of a string, and all symbol characters after it (`sym_after (one_of ..)`)
+unfoldable pub one-of-then-symbols : Bytes → ℕ → String → Match
+one-of-then-symbols s i chars = one (λ c. mem-cp c (codes chars)) s i then λ e. To (star is-symbolchar s e)
+
+-- `sym_after (match_lit ..)`
+unfoldable pub lit-then-symbols : Bytes → ℕ → String → Match
+lit-then-symbols s i word = match-lit s (cps word) i then λ e. To (star is-symbolchar s e)
+
+-- what each place finds at i, in order. A `when` is an `if` of the source around some `try_` calls
+unfoldable pub places : Bytes → Bytes → ℕ → List Choice
+places s f i =
+    let is : Char → Bool = λ x. char-has (λ c. eqb c (ch x)) s i in
+    let beyond-ascii = char-has (λ c. leb ascii-limit c) s i in
+    let digit = char-has is-digit s i in
+    let op-char = char-has is-op-char s i in
+    let lit : String → Match = λ word. match-lit s (cps word) i in
+    let place : ℕ → Match → Choice = λ k m. found i k 0 m in
+    let when : Bool → Match → Match = λ t m. only t m in
+    let table : ℕ → (Bytes → Match) → List Entry → Choice = λ k m es. try-words i k m 0 es (none-at i) in
+    table 1 (λ w. match-lit s w i) early-literals
+    ∷ place 2 (when (is "`") (lit "```" then match-ident s f))
+    ∷ place 3 (when (is "#") (lit "#lang-" then match-ident s f))
+    ∷ place 4 (when (is "_") (lit "__SOURCE_FILE__"))
+    ∷ place 5 (when (is "_") (lit "__LINE__"))
+    ∷ place 6 (when (is "_") (lit "__FILELINE__"))
+    ∷ place 7 (when beyond-ascii (plus (is-anywhite f) s i))
+    ∷ place 8 (when beyond-ascii (match-newline s i))
+    ∷ place 9 (when (is "'") (match-char-lit s i false))
+    ∷ place 10 (when (is "'") (match-char-lit s i true))
+    ∷ place 11 (when (is "`") (To (i + 1)))
+    ∷ table 12 (λ w. match-lit s w i then plus is-op-char s) kw-op-rules
+    ∷ place 13 (when (is ";") (lit ";;"))
+    ∷ place 14 (match-ident s f i)
+    ∷ place 15 (match-constructor s f i)
+    ∷ place 16 (when digit (max-list (any-integer-ends s i)))
+    ∷ place 17 (when digit (later (match-int-usuffix s i (cps "y")) (match-int-suffix s i (cps "z"))))
+    ∷ place 18 (when digit (match-int-suffix s i (cps "y")))
+    ∷ place 19 (when digit (match-int-usuffix s i (cps "s")))
+    ∷ place 20 (when digit (match-int-suffix s i (cps "s")))
+    ∷ place 21 (when digit (match-int-usuffix s i (cps "l")))
+    ∷ place 22 (when digit (match-int-suffix s i (cps "l")))
+    ∷ place 23 (when digit (match-int-usuffix s i (cps "L")))
+    ∷ place 24 (when digit (match-int-suffix s i (cps "L")))
+    ∷ place 25 (when digit (match-int-suffix s i (cps "sz")))
+    ∷ place 26 (when digit (match-real s i))
+    ∷ place 27 (when digit (match-bad-number s f i))
+    ∷ place 28 (when (is "(") (lit "(*"))
+    ∷ place 29 (when (is "/") (lit "// IN F*:"))
+    ∷ place 30 (when (is "/") (lit "//"))
+    ∷ place 31 (when (is "\"") (To (i + 1)))
+    ∷ place 32 (when (is "`") (match-backtick-ident s i))
+    ∷ place 33 (when (is "<") (lit "<|"))
+    ∷ place 34 (when (is "|") (lit "|>"))
+    ∷ place 35 (when (is ".") (lit ".."))
+    ∷ table 36 (λ w. match-lit s w i) op-tokens
+    ∷ place 37 (when op-char (when (is "<") (To (i + 1))))
+    ∷ place 38 (when op-char (when (is ">") (To (star is-symbolchar s (i + 1)))))
+    ∷ place 39 (when op-char (lit-then-symbols s i "**"))
+    ∷ place 40 (when op-char (lit-then-symbols s i "|->"))
+    ∷ place 41 (when op-char (one-of-then-symbols s i "!~?"))
+    ∷ place 42 (when op-char (one-of-then-symbols s i "|"))
+    ∷ place 43 (when op-char (one-of-then-symbols s i "&"))
+    ∷ place 44 (when op-char (one-of-then-symbols s i "=<"))
+    ∷ place 45 (when op-char (one-of-then-symbols s i "$"))
+    ∷ place 46 (when op-char (one-of-then-symbols s i "@^"))
+    ∷ place 47 (when op-char (one-of-then-symbols s i "+-"))
+    ∷ place 48 (when op-char (one-of-then-symbols s i "*/%"))
+    ∷ place 49 (when beyond-ascii (one (is-uoperator f) s i))
+    ∷ table 50 (λ w. match-lit s w i) mixfix-rules
+    ∷ []
+
+-- the fast paths first: "rules that are the only ones starting with [c]"
+unfoldable pub select : Bytes → Bytes → ℕ → Choice
+select s f i =
+    elim (char-has (λ c. eqb c (ch " ") || (eqb c (ch "\t") || (eqb c 11 || eqb c 12))) s i) [
+      | true ↦ found i 7 0 (plus (is-anywhite f) s i)
+      | false ↦ elim (char-has (λ c. eqb c (ch "\n") || eqb c (ch "\r")) s i) [
+        | true ↦ found i 8 0 (match-newline s i)
+        | false ↦ try-all (places s f i) (none-at i)
+      ]
+    ]

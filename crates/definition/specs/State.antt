@@ -1,0 +1,101 @@
+-- The lexing state: what it is after some reading, when a saved one is sound, and `start`.
+use Prim.Native.Nat.{ℕ, suc, _+_, _-_}
+use mathlib.Core.Bool.{Bool, true, false, not, _&&_, _||_}
+use lib.Dec.{ltb, leb, eqb}
+use lib.ListN.{length, getD}
+use Rattle.definition.specs.Basics.{Bytes, between, if_then_else_}
+use Rattle.definition.specs.Position.{is-continuation}
+use Rattle.definition.specs.declared.Pos.{Pos}
+use Rattle.definition.specs.declared.State.{State}
+use Rattle.definition.specs.declared.StartAnswer.{StartAnswer}
+
+abbrev pub no-pos : Pos
+no-pos = record { line = 0; col = 0 }
+
+-- ---- reading on
+
+-- `st.cur := i`
+abbrev pub advance : State → ℕ → State
+advance st i = record {
+  offset = i; line = st .line; bol = st .bol; column = st .column;
+  comments = st .comments; mode = st .mode; depth = st .depth; comment = st .comment;
+}
+
+-- `new_line`
+abbrev pub new-line : State → State
+new-line st = record {
+  offset = st .offset; line = st .line + 1; bol = st .offset; column = 0;
+  comments = st .comments; mode = st .mode; depth = st .depth; comment = st .comment;
+}
+
+-- the reading has ended, with EOF or ERROR
+abbrev pub ended : State → State
+ended st = record {
+  offset = st .offset; line = st .line; bol = st .bol; column = st .column;
+  comments = st .comments; mode = 2; depth = st .depth; comment = st .comment;
+}
+
+-- `add_comment`, as far as it counts
+abbrev pub one-more-comment : State → State
+one-more-comment st = record {
+  offset = st .offset; line = st .line; bol = st .bol; column = st .column;
+  comments = st .comments + 1; mode = st .mode; depth = st .depth; comment = st .comment;
+}
+
+-- a call of `comment` from outside: one level is open, and its start is p
+abbrev pub open-comment : State → Pos → State
+open-comment st p = record {
+  offset = st .offset; line = st .line; bol = st .bol; column = st .column;
+  comments = st .comments; mode = 1; depth = 1; comment = p;
+}
+
+-- a call of `comment` from inside: one level more
+abbrev pub deeper : State → State
+deeper st = record {
+  offset = st .offset; line = st .line; bol = st .bol; column = st .column;
+  comments = st .comments; mode = st .mode; depth = st .depth + 1; comment = st .comment;
+}
+
+-- a return from `comment`: one level less, and with none left the comment is over
+unfoldable pub close-comment : State → State
+close-comment st =
+    elim (ltb 1 (st .depth)) [
+      | true ↦ record {
+        offset = st .offset; line = st .line; bol = st .bol; column = st .column;
+        comments = st .comments + 1; mode = 1; depth = st .depth - 1; comment = st .comment;
+      }
+      | false ↦ record {
+        offset = st .offset; line = st .line; bol = st .bol; column = st .column;
+        comments = st .comments + 1; mode = 0; depth = 0; comment = no-pos;
+      }
+    ]
+
+-- ---- document 01, "Items and saved state": a sound state
+
+-- i stands on a character's first byte or on the text's end
+unfoldable pub at-character : Bytes → ℕ → Bool
+at-character s i = if ltb i (length s) then not (is-continuation (getD s i 0)) else eqb i (length s)
+
+unfoldable pub sound : Bytes → State → Bool
+sound s st =
+    (at-character s (st .offset) && at-character s (st .bol))
+    && (leb (st .bol) (st .offset)
+    && (leb (st .line) (1000000 + st .offset)
+    && (leb (st .column) 1000000
+    && (leb (st .comments + st .depth) (st .offset)
+    && (leb (st .mode) 2
+    && ((if eqb (st .mode) 1 then leb 1 (st .depth) else (eqb (st .depth) 0 && (eqb (st .comment .line) 0 && eqb (st .comment .col) 0)))
+    && (leb (st .comment .line) (st .line) && leb (st .comment .col) 2048576)))))))
+
+-- ---- document 01, "Start"
+
+abbrev pub started : ℕ → ℕ → State
+started line column = record {
+  offset = 0; line = line; bol = 0; column = column; comments = 0; mode = 0; depth = 0; comment = no-pos;
+}
+
+unfoldable pub start : ℕ → ℕ → StartAnswer
+start line column =
+    if ltb 1000000 line then record { refusal = 1; state = started 0 0 } else
+    if ltb 1000000 column then record { refusal = 2; state = started 0 0 } else
+    record { refusal = 0; state = started line column }

@@ -1,0 +1,61 @@
+-- `string_lit`.
+use Prim.Native.Nat.{ℕ, _+_}
+use mathlib.Core.Bool.{Bool, true, false, _||_}
+use mathlib.Core.List.{List, [], _∷_, _++_}
+use lib.Dec.{ltb, leb, eqb}
+use lib.ListN.{length}
+use Rattle.definition.specs.Basics.{Bytes, Turn, again, done, loop, fuel, ch}
+use Rattle.definition.specs.Text.{byte-is, lexeme, star}
+use Rattle.definition.specs.Chars.{is-newline-char, is-anywhite}
+use Rattle.definition.specs.Position.{cur-pos}
+use Rattle.definition.specs.Kinds.{kind}
+use Rattle.definition.specs.Matchers.{only, match-newline, match-escape}
+use Rattle.definition.specs.Escapes.{unescape, is-surrogate, string-of-cp}
+use Rattle.definition.specs.State.{advance, new-line}
+use Rattle.definition.specs.Item.{Step, tok, lex-error}
+use Rattle.definition.specs.Comment.{run-end}
+use Rattle.definition.specs.declared.Pos.{Pos}
+use Rattle.definition.specs.declared.State.{State}
+use Rattle.definition.specs.declared.Extra.the-variants.{NoExtra}
+use Rattle.definition.specs.declared.Match.{Match}
+use Rattle.definition.specs.declared.Match.the-variants.{To, Nothing}
+
+unfoldable pub string-stop : ℕ → Bool
+string-stop c = eqb c (ch "\\") || (eqb c (ch "\"") || is-newline-char c)
+
+-- an escape that ends at e. A surrogate is error 7, "its position and both ends of its range at the backslash", where st stands
+unfoldable pub escape-turn : Bytes → State → Bytes → ℕ → Turn (State × Bytes) Step
+escape-turn s st acc e =
+    let c = unescape s (st .offset) in
+    elim (is-surrogate c) [
+      | true ↦ done (lex-error s st 7 [] (cur-pos s st) (cur-pos s st))
+      | false ↦ again (advance st e, acc ++ string-of-cp c)
+    ]
+
+-- one call of `string_lit`: acc is the literal read so far, sp where it began
+abbrev pub string-turn : Bytes → Bytes → Pos → State × Bytes → Turn (State × Bytes) Step
+string-turn s f sp (st, acc) =
+    let i = st .offset in
+    let j = run-end string-stop s i in
+    elim (ltb i j) [
+      | true ↦ again (advance st j, acc ++ lexeme s i j)
+      | false ↦ elim (only (byte-is (ch "\\") s i) (match-newline s (i + 1))) [
+        | To nl1 ↦ again (new-line (advance st (star (is-anywhite f) s nl1)), acc)
+        | Nothing ↦ elim (match-newline s i) [
+          | To nl ↦ again (new-line (advance st nl), acc ++ lexeme s i nl)
+          | Nothing ↦ elim (match-escape s i) [
+            | To esc ↦ escape-turn s st acc esc
+            | Nothing ↦ elim (byte-is (ch "\"") s i) [
+              | true ↦ done (let st = advance st (i + 1) in tok (kind "STRING") acc sp (cur-pos s st) NoExtra st)
+              | false ↦ elim (leb (length s) i) [
+                | true ↦ done (lex-error s st 1 [] (cur-pos s st) (cur-pos s st))
+                | false ↦ again (advance st (i + 1), acc ++ lexeme s i (i + 1))
+              ]
+            ]
+          ]
+        ]
+      ]
+    ]
+
+unfoldable pub string-lit : Bytes → Bytes → State → Pos → Step
+string-lit s f st sp = loop (string-turn s f sp) (λ a. lex-error s (a .0) 1 [] (cur-pos s (a .0)) (cur-pos s (a .0))) (fuel s) (st, [])
