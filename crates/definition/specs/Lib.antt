@@ -20,3 +20,7 @@ pub mod Blob
 pub mod Token
 pub mod Run
 pub mod Listed
+pub mod Regex
+pub mod Patterns
+pub mod Longest
+pub mod Reading
