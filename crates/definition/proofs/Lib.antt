@@ -1,1 +1,3 @@
 mod Tables
+mod Cases
+mod Limits

@@ -24,3 +24,5 @@ pub mod Regex
 pub mod Patterns
 pub mod Longest
 pub mod Reading
+pub mod Cases
+pub mod Limits

@@ -1,6 +1,7 @@
 -- The lexing state: what it is after some reading, when a saved one is sound, and `start`.
 use Prim.Native.Nat.{ℕ, suc, _+_, _-_}
 use mathlib.Core.Bool.{Bool, true, false, not, _&&_, _||_}
+use mathlib.Core.List.{List, [], _∷_}
 use lib.Dec.{ltb, leb, eqb}
 use lib.ListN.{length, getD}
 use Rattle.definition.specs.Basics.{Bytes, between, if_then_else_}
@@ -11,6 +12,20 @@ use Rattle.definition.specs.declared.StartAnswer.{StartAnswer}
 
 abbrev pub no-pos : Pos
 no-pos = record { line = 0; col = 0 }
+
+-- the nine numbers, in document 01's order
+abbrev pub state-words : State → List ℕ
+state-words st =
+    st .offset
+    ∷ st .line
+    ∷ st .bol
+    ∷ st .column
+    ∷ st .comments
+    ∷ st .mode
+    ∷ st .depth
+    ∷ st .comment .line
+    ∷ st .comment .col
+    ∷ []
 
 -- ---- reading on
 

@@ -1,0 +1,118 @@
+-- The table of document 01's twelve lines marked (M): each text with the items that the line states. proofs/Cases.antt computes
+-- that the definition gives them. Texts start at 1:0, with the class file of no ranges.
+use Prim.Native.Nat.{ℕ}
+use Prim.Native.String.{String}
+use mathlib.Core.Bool.{Bool, true, false}
+use mathlib.Core.List.{List, [], _∷_, _++_, map}
+use lib.ListN.{length}
+use Rattle.definition.specs.Basics.{Bytes}
+use Rattle.definition.specs.Kinds.{kind}
+use Rattle.definition.specs.Tables.{cps}
+use Rattle.definition.specs.Item.{mark}
+
+-- "the class file of no ranges (48 bytes, each count 0, each offset 48)"
+abbrev pub no-ranges : Bytes
+no-ranges =
+    0 ∷ 0 ∷ 0 ∷ 0 ∷ 48 ∷ 0 ∷ 0 ∷ 0
+    ∷ 0 ∷ 0 ∷ 0 ∷ 0 ∷ 48 ∷ 0 ∷ 0 ∷ 0
+    ∷ 0 ∷ 0 ∷ 0 ∷ 0 ∷ 48 ∷ 0 ∷ 0 ∷ 0
+    ∷ 0 ∷ 0 ∷ 0 ∷ 0 ∷ 48 ∷ 0 ∷ 0 ∷ 0
+    ∷ 0 ∷ 0 ∷ 0 ∷ 0 ∷ 48 ∷ 0 ∷ 0 ∷ 0
+    ∷ 0 ∷ 0 ∷ 0 ∷ 0 ∷ 48 ∷ 0 ∷ 0 ∷ 0
+    ∷ []
+
+-- ---- items as they are written in the table: each is its sixteen numbers, word 6 being 0, and its payload's bytes
+
+abbrev pub Listed-item : Type 0
+Listed-item = List ℕ
+
+-- words 0 to 8, then words 9 to 15 and the payload
+abbrev pub item : ℕ → ℕ → ℕ → ℕ → ℕ → ℕ → ℕ → ℕ → List ℕ → String → Listed-item
+item sort k l₁ c₁ l₂ c₂ size ncom extra payload = sort ∷ k ∷ l₁ ∷ c₁ ∷ l₂ ∷ c₂ ∷ 0 ∷ size ∷ ncom ∷ (extra ++ cps payload)
+
+abbrev pub plain : List ℕ
+plain = 0 ∷ 0 ∷ 0 ∷ 0 ∷ 0 ∷ 0 ∷ 0 ∷ []
+
+-- a token: its kind, its range, the comments so far, its payload
+abbrev pub token : String → ℕ → ℕ → ℕ → ℕ → ℕ → String → Listed-item
+token k l₁ c₁ l₂ c₂ ncom payload = item 1 (kind k) l₁ c₁ l₂ c₂ (length (cps payload)) ncom plain payload
+
+-- the end: its position, the comments so far
+abbrev pub eof : ℕ → ℕ → ℕ → Listed-item
+eof l c ncom = token "EOF" l c l c ncom ""
+
+-- a character literal: its range, its code point
+abbrev pub character : ℕ → ℕ → ℕ → ℕ → ℕ → Listed-item
+character l₁ c₁ l₂ c₂ code = item 1 (kind "CHAR") l₁ c₁ l₂ c₂ 0 0 (1 ∷ code ∷ 0 ∷ 0 ∷ 0 ∷ 0 ∷ 0 ∷ []) ""
+
+-- an error at 1:0 with a range from there to the column given: its number and its payload
+abbrev pub error : ℕ → ℕ → String → Listed-item
+error number to payload = item 1 (kind "ERROR") 1 0 1 0 (length (cps payload)) 0 (3 ∷ number ∷ 1 ∷ 0 ∷ 1 ∷ to ∷ 0 ∷ []) payload
+
+-- a blob: its range, its name, the position after its header, its header's start, its contents
+abbrev pub a-blob : ℕ → ℕ → ℕ → ℕ → String → ℕ → ℕ → ℕ → ℕ → String → Listed-item
+a-blob l₁ c₁ l₂ c₂ name pl pc sl sc contents =
+    item 1 (kind "BLOB") l₁ c₁ l₂ c₂ (length (cps name)) 0 (2 ∷ length (cps contents) ∷ pl ∷ pc ∷ sl ∷ sc ∷ 0 ∷ []) "" ++ (cps name ++ cps contents)
+
+-- a comment: its range, its number, whether it is closed, its text
+abbrev pub a-comment : ℕ → ℕ → ℕ → ℕ → ℕ → Bool → String → Listed-item
+a-comment l₁ c₁ l₂ c₂ number closed payload =
+    item 2 0 l₁ c₁ l₂ c₂ (length (cps payload)) number (mark closed ∷ 0 ∷ 0 ∷ 0 ∷ 0 ∷ 0 ∷ 0 ∷ []) payload
+
+-- a text with its items
+abbrev pub Case : Type 0
+Case = String × List Listed-item
+
+-- ---- the twelve lines, in document 01's order
+
+unfoldable pub m-cases : List Case
+m-cases =
+    -- `1.5` and `1e5` are error 5. `1e+5` is error 5 with payload `1e`; `1e+55` is error 5 whole.
+    ("1.5", error 5 3 "1.5" ∷ [])
+    ∷ ("1e5", error 5 3 "1e5" ∷ [])
+    ∷ ("1e+5", error 5 2 "1e" ∷ [])
+    ∷ ("1e+55", error 5 5 "1e+55" ∷ [])
+    -- `1.5R` is REAL `1.5`. `1.` is INT, DOT.
+    ∷ ("1.5R", token "REAL" 1 0 1 4 0 "1.5" ∷ eof 1 4 0 ∷ [])
+    ∷ ("1.", token "INT" 1 0 1 1 0 "1" ∷ token "DOT" 1 1 1 2 0 "" ∷ eof 1 2 0 ∷ [])
+    -- `255uy` is UINT8, `256uy` and `256z` are error 4, `300y` is INT8 `300`.
+    ∷ ("255uy", token "UINT8" 1 0 1 5 0 "255" ∷ eof 1 5 0 ∷ [])
+    ∷ ("256uy", error 4 5 "" ∷ [])
+    ∷ ("256z", error 4 4 "" ∷ [])
+    ∷ ("300y", token "INT8" 1 0 1 4 0 "300" ∷ eof 1 4 0 ∷ [])
+    -- `>` is OPINFIX0c `>` at 1:1 to 1:1: the range begins one byte late.
+    ∷ (">", token "OPINFIX0c" 1 1 1 1 0 ">" ∷ eof 1 1 0 ∷ [])
+    -- `-//c` is OPINFIX2 `-`, not MINUS. `->//` is OPINFIX2 `->`. `let//c` is LET.
+    ∷ ("-//c", token "OPINFIX2" 1 0 1 1 0 "-" ∷ a-comment 1 3 1 4 1 true "//c" ∷ eof 1 4 1 ∷ [])
+    ∷ ("->//", token "OPINFIX2" 1 0 1 2 0 "->" ∷ a-comment 1 4 1 4 1 true "//" ∷ eof 1 4 1 ∷ [])
+    ∷ ("let//c", token "LET" 1 0 1 3 0 "" ∷ a-comment 1 5 1 6 1 true "//c" ∷ eof 1 6 1 ∷ [])
+    -- `//c` is a comment `//c` ranged from 1:2; `///c` is a comment `///c` ranged from 1:0. `// IN F*:` is skipped and code follows.
+    ∷ ("//c", a-comment 1 2 1 3 1 true "//c" ∷ eof 1 3 1 ∷ [])
+    ∷ ("///c", a-comment 1 0 1 4 1 true "///c" ∷ eof 1 4 1 ∷ [])
+    ∷ ("// IN F*: x", token "IDENT" 1 10 1 11 0 "x" ∷ eof 1 11 0 ∷ [])
+    -- `(* a (* b *) c *)` gives two comments, `(* a (* b *)` and ` c *)`, both ranged from 1:0. `(*)` opens a comment.
+    ∷ ("(* a (* b *) c *)", a-comment 1 0 1 12 1 true "(* a (* b *)" ∷ a-comment 1 0 1 17 2 true " c *)" ∷ eof 1 17 2 ∷ [])
+    ∷ ("(*)", a-comment 1 0 1 3 1 false "(*)*)" ∷ eof 1 3 1 ∷ [])
+    -- `(* a (* b` gives `(* a (* b*)` and `*)`, both marked unclosed, then EOF.
+    ∷ ("(* a (* b", a-comment 1 0 1 9 1 false "(* a (* b*)" ∷ a-comment 1 0 1 9 2 false "*)" ∷ eof 1 9 2 ∷ [])
+    -- A comment that begins `(*` is never trimmed. What follows an inner close is: with the outer opening in column 4, remainder
+    -- `  c *)` becomes `c *)`.
+    ∷ ("    (* a\n     b *)", a-comment 1 4 2 9 1 true "(* a\n     b *)" ∷ eof 2 9 1 ∷ [])
+    ∷ ("    (* a (* b *)  c *)", a-comment 1 4 1 16 1 true "(* a (* b *)" ∷ a-comment 1 4 1 22 2 true "c *)" ∷ eof 1 22 2 ∷ [])
+    -- `'a'` is CHAR, `'ab'` IDENT, `'a'b` IDENT. A raw newline between quotes is CHAR and starts no new line.
+    ∷ ("'a'", character 1 0 1 3 97 ∷ eof 1 3 0 ∷ [])
+    ∷ ("'ab'", token "IDENT" 1 0 1 4 0 "'ab'" ∷ eof 1 4 0 ∷ [])
+    ∷ ("'a'b", token "IDENT" 1 0 1 4 0 "'a'b" ∷ eof 1 4 0 ∷ [])
+    ∷ ("'\n'", character 1 0 1 3 10 ∷ eof 1 3 0 ∷ [])
+    -- Backslash, line end, 3 spaces inside a string: all dropped, and the next character has column 0.
+    ∷ ("\"a\\\n   b\"", token "STRING" 1 0 2 2 0 "ab" ∷ eof 2 2 0 ∷ [])
+    -- ```f x``` on one line is IDENT `f x and then BACKTICK; a blob opens only when no such identifier is longer.
+    ∷ ("```f x```", token "IDENT" 1 0 1 8 0 "`f x" ∷ token "BACKTICK" 1 8 1 9 0 "" ∷ eof 1 9 0 ∷ [])
+    ∷ ("```f\nx```", a-blob 2 1 2 4 "f" 1 4 1 0 "\nx" ∷ eof 2 4 0 ∷ [])
+    ∷ []
+
+abbrev pub texts : List Bytes
+texts = map (λ c. cps (c .0)) m-cases
+
+abbrev pub expected : List (List Listed-item)
+expected = map (λ c. c .1) m-cases
