@@ -12,7 +12,6 @@ abbrev pub Bytes : Type 0
 Bytes = List ℕ
 
 infix 1 if_then_else_
-
 -- both arms are computed, so a recursive call stands in an `elim` and not here
 abbrev pub if_then_else_ : {X : Type 0} → Bool → X → X → X
 if true then a else b = a

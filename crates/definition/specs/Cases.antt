@@ -109,6 +109,9 @@ m-cases =
     -- ```f x``` on one line is IDENT `f x and then BACKTICK; a blob opens only when no such identifier is longer.
     ∷ ("```f x```", token "IDENT" 1 0 1 8 0 "`f x" ∷ token "BACKTICK" 1 8 1 9 0 "" ∷ eof 1 9 0 ∷ [])
     ∷ ("```f\nx```", a-blob 2 1 2 4 "f" 1 4 1 0 "\nx" ∷ eof 2 4 0 ∷ [])
+    -- besides, two of document 01's misreadings that no line above would show: columns count characters, and a keyword is a whole word.
+    ∷ ("αx 1", token "IDENT" 1 0 1 2 0 "αx" ∷ token "INT" 1 3 1 4 0 "1" ∷ eof 1 4 0 ∷ [])
+    ∷ ("lets", token "IDENT" 1 0 1 4 0 "lets" ∷ eof 1 4 0 ∷ [])
     ∷ []
 
 abbrev pub texts : List Bytes

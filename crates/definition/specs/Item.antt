@@ -34,7 +34,11 @@ tok k text sp ep extra next = record {
 abbrev pub blob-tok : ℕ → Bytes → Bytes → Pos → Pos → Pos → Pos → State → Step
 blob-tok k name contents sp ep pos snap next = record {
   item = record {
-    kind = k; sp = sp; ep = ep; length = length name; comments = next .comments;
+    kind = k;
+    sp = sp;
+    ep = ep;
+    length = length name;
+    comments = next .comments;
     extra = Blob (length contents) pos snap;
   };
   payload = name ++ contents;

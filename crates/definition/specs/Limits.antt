@@ -70,17 +70,38 @@ two-letters = cps "aé"
 -- a state in mode 0, and one in mode 1
 abbrev pub between-items : ℕ → ℕ → ℕ → ℕ → ℕ → State
 between-items offset line bol column comments = record {
-  offset = offset; line = line; bol = bol; column = column; comments = comments; mode = 0; depth = 0; comment = no-pos;
+  offset = offset;
+  line = line;
+  bol = bol;
+  column = column;
+  comments = comments;
+  mode = 0;
+  depth = 0;
+  comment = no-pos;
 }
 
 abbrev pub in-comment : ℕ → ℕ → ℕ → ℕ → ℕ → State
 in-comment offset line depth l c = record {
-  offset = offset; line = line; bol = 0; column = 0; comments = 0; mode = 1; depth = depth; comment = record { line = l; col = c };
+  offset = offset;
+  line = line;
+  bol = 0;
+  column = 0;
+  comments = 0;
+  mode = 1;
+  depth = depth;
+  comment = record { line = l; col = c };
 }
 
 abbrev pub in-mode : ℕ → ℕ → ℕ → State
 in-mode mode depth col = record {
-  offset = 3; line = 1; bol = 0; column = 0; comments = 0; mode = mode; depth = depth; comment = record { line = 0; col = col };
+  offset = 3;
+  line = 1;
+  bol = 0;
+  column = 0;
+  comments = 0;
+  mode = mode;
+  depth = depth;
+  comment = record { line = 0; col = col };
 }
 
 abbrev pub is-sound : State → List ℕ
@@ -164,9 +185,20 @@ sound-rows =
     ∷ ("depth 3 at offset 3", is-sound (in-comment 3 1 3 1 0), 1 ∷ [])
     ∷ ("depth 4 at offset 3", is-sound (in-comment 3 1 4 1 0), 0 ∷ [])
     ∷ ("depth 0 in mode 1", is-sound (in-comment 3 1 0 1 0), 0 ∷ [])
-    ∷ ("depth 2^32-1, whose sum with a comment 32 bits don't count", is-sound (record {
-      offset = 3; line = 1; bol = 0; column = 0; comments = 1; mode = 1; depth = 4294967295; comment = no-pos;
-    }), 0 ∷ [])
+    ∷ (
+      "depth 2^32-1, whose sum with a comment 32 bits don't count",
+      is-sound (record {
+        offset = 3;
+        line = 1;
+        bol = 0;
+        column = 0;
+        comments = 1;
+        mode = 1;
+        depth = 4294967295;
+        comment = no-pos;
+      }),
+      0 ∷ [],
+    )
     ∷ ("mode 2", is-sound (in-mode 2 0 0), 1 ∷ [])
     ∷ ("mode 3", is-sound (in-mode 3 0 0), 0 ∷ [])
     ∷ ("depth 1 in mode 0", is-sound (in-mode 0 1 0), 0 ∷ [])
@@ -212,7 +244,14 @@ nested = cps "(* a (* b *) c *)"
 
 abbrev pub behind-first : State
 behind-first = record {
-  offset = 12; line = 1; bol = 0; column = 0; comments = 1; mode = 1; depth = 1; comment = record { line = 1; col = 0 };
+  offset = 12;
+  line = 1;
+  bol = 0;
+  column = 0;
+  comments = 1;
+  mode = 1;
+  depth = 1;
+  comment = record { line = 1; col = 0 };
 }
 
 unfoldable pub carried-rows : List Row

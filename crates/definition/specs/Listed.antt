@@ -12,25 +12,86 @@ use Rattle.definition.specs.Basics.{loop, mem-cp, same}
 use Rattle.definition.specs.Utf8.{encode, encode-all, tail-bits, two, three-bytes, three, four-bytes, four, sequence, sequence-at}
 use Rattle.definition.specs.Text.{char-has, byte-has, star, first-bad}
 use Rattle.definition.specs.ClassFile.{
-  in-ranges, little-endian, class-count, class-offset, counts-before, place-of, read-ranges, ranges-of, bad-class-length, offsets-right,
-  laid-out, ascending, ranges-right, class-check, is-lu, is-lt, is-lo, is-lm, is-zs, is-sm
+  in-ranges,
+  little-endian,
+  class-count,
+  class-offset,
+  counts-before,
+  place-of,
+  read-ranges,
+  ranges-of,
+  bad-class-length,
+  offsets-right,
+  laid-out,
+  ascending,
+  ranges-right,
+  class-check,
+  is-lu,
+  is-lt,
+  is-lo,
+  is-lm,
+  is-zs,
+  is-sm,
 }
 use Rattle.definition.specs.Lowercase.{ll-tbl, is-ll}
 use Rattle.definition.specs.Chars.{
-  is-digit, is-hex, count-up, ascii-table, in-table, is-op-char, is-symbolchar, is-lower, is-ident-start, is-constructor-start,
-  is-ident-char, is-anywhite, is-newline-char, is-uoperator
+  is-digit,
+  is-hex,
+  count-up,
+  ascii-table,
+  in-table,
+  is-op-char,
+  is-symbolchar,
+  is-lower,
+  is-ident-start,
+  is-constructor-start,
+  is-ident-char,
+  is-anywhite,
+  is-newline-char,
+  is-uoperator,
 }
 use Rattle.definition.specs.Position.{is-continuation, weight-at, count-chars, col-by}
 use Rattle.definition.specs.Kinds.{kind-names, number-from, kind}
 use Rattle.definition.specs.Tables.{cps, find, keywords, constructors, op-tokens, uoperators, early-literals, kw-op-rules, mixfix-rules}
 use Rattle.definition.specs.Matchers.{
-  later, max-list, one, match-lit, plus, match-newline, match-ident, match-constructor, match-escape, match-char, match-char-lit,
-  match-integer, match-xinteger, any-integer-ends, match-int-suffix, match-int-usuffix, match-floatp, skip-sign, is-e, match-floate,
-  match-real, match-bad-number, match-backtick-ident, no-comment
+  later,
+  max-list,
+  one,
+  match-lit,
+  plus,
+  match-newline,
+  match-ident,
+  match-constructor,
+  match-escape,
+  match-char,
+  match-char-lit,
+  match-integer,
+  match-xinteger,
+  any-integer-ends,
+  match-int-suffix,
+  match-int-usuffix,
+  match-floatp,
+  skip-sign,
+  is-e,
+  match-floate,
+  match-real,
+  match-bad-number,
+  match-backtick-ident,
+  no-comment,
 }
 use Rattle.definition.specs.Select.{keep, try-words, try-all, one-of-then-symbols, lit-then-symbols, places, select}
 use Rattle.definition.specs.Numbers.{
-  strips, strip-left, behind, strip-right, clean-number, digit-value, value-from, base-of, after-zero, int-of-string, show
+  strips,
+  strip-left,
+  behind,
+  strip-right,
+  clean-number,
+  digit-value,
+  value-from,
+  base-of,
+  after-zero,
+  int-of-string,
+  show,
 }
 use Rattle.definition.specs.Escapes.{code-at, hex-value, unescape, is-surrogate}
 use Rattle.definition.specs.Trim.{onto-first, split-lines, join-lines, empty-prefix, trim-width, maybe-trim-lines}
@@ -69,18 +130,18 @@ said (answer, rs, ps) =
 -- than four bytes for each byte of its item. The line below names all that it rests on, so that a claim about it computes
 unfoldable pub listed : Bytes → Bytes → List (List ℕ)
 unfolding
-  read-back said
-  loop mem-cp same encode encode-all tail-bits two three-bytes three four-bytes four sequence sequence-at char-has byte-has star first-bad
-  in-ranges little-endian class-count class-offset counts-before place-of read-ranges ranges-of bad-class-length offsets-right laid-out
-  ascending ranges-right class-check is-lu is-lt is-lo is-lm is-zs is-sm ll-tbl is-ll is-digit is-hex count-up ascii-table in-table
-  is-op-char is-symbolchar is-lower is-ident-start is-constructor-start is-ident-char is-anywhite is-newline-char is-uoperator
-  is-continuation weight-at count-chars col-by kind-names number-from kind cps find keywords constructors op-tokens uoperators
-  early-literals kw-op-rules mixfix-rules later max-list one match-lit plus match-newline match-ident match-constructor match-escape
-  match-char match-char-lit match-integer match-xinteger any-integer-ends match-int-suffix match-int-usuffix match-floatp skip-sign is-e
-  match-floate match-real match-bad-number match-backtick-ident no-comment keep try-words try-all one-of-then-symbols lit-then-symbols
-  places select strips strip-left behind strip-right clean-number digit-value value-from base-of after-zero int-of-string show code-at
-  hex-value unescape is-surrogate onto-first split-lines join-lines empty-prefix trim-width maybe-trim-lines close-comment at-character
-  sound start after comment-stop comment line-comment string-stop escape-turn string-lit blob-stop blob use-lang starts-with rules act
-  token-turn next-token step put run-turn run-items text-too-long name-too-long refusal run
+    read-back said
+    loop mem-cp same encode encode-all tail-bits two three-bytes three four-bytes four sequence sequence-at char-has byte-has star first-bad
+    in-ranges little-endian class-count class-offset counts-before place-of read-ranges ranges-of bad-class-length offsets-right laid-out
+    ascending ranges-right class-check is-lu is-lt is-lo is-lm is-zs is-sm ll-tbl is-ll is-digit is-hex count-up ascii-table in-table
+    is-op-char is-symbolchar is-lower is-ident-start is-constructor-start is-ident-char is-anywhite is-newline-char is-uoperator
+    is-continuation weight-at count-chars col-by kind-names number-from kind cps find keywords constructors op-tokens uoperators
+    early-literals kw-op-rules mixfix-rules later max-list one match-lit plus match-newline match-ident match-constructor match-escape
+    match-char match-char-lit match-integer match-xinteger any-integer-ends match-int-suffix match-int-usuffix match-floatp skip-sign is-e
+    match-floate match-real match-bad-number match-backtick-ident no-comment keep try-words try-all one-of-then-symbols lit-then-symbols
+    places select strips strip-left behind strip-right clean-number digit-value value-from base-of after-zero int-of-string show code-at
+    hex-value unescape is-surrogate onto-first split-lines join-lines empty-prefix trim-width maybe-trim-lines close-comment at-character
+    sound start after comment-stop comment line-comment string-stop escape-turn string-lit blob-stop blob use-lang starts-with rules act
+    token-turn next-token step put run-turn run-items text-too-long name-too-long refusal run
 listed text classes =
     said (run text (cps "stdin") classes (started 1 0) (replicate (record-size * (length text + 1)) 0) (replicate (4 * length text) 0))

@@ -16,7 +16,6 @@ use Rattle.definition.specs.declared.Match.the-variants.{To, Nothing}
 -- ---- putting matchers together
 
 infixl 3 _then_
-
 -- m, and from its end f
 abbrev pub _then_ : Match → (ℕ → Match) → Match
 To j then f = f j
@@ -145,7 +144,7 @@ match-bad-number s f i =
     let j = match-integer s i in
     let floatp-min = j then λ j. only (byte-is (ch ".") s j) (To (j + 1)) in
     let exp-min : ℕ → Match =
-      λ k. only (byte-has is-e s k) (let k = skip-sign s (k + 1) in only (byte-has is-digit s k) (To (k + 1)))
+    λ k. only (byte-has is-e s k) (let k = skip-sign s (k + 1) in only (byte-has is-digit s k) (To (k + 1)))
     in
     let floate-min = later (j then exp-min) (floatp-min then λ k. exp-min (star is-digit s k)) in
     let ends = j ∷ xi ∷ match-floatp s i ∷ match-floate s i ∷ xieee ∷ floatp-min ∷ floate-min ∷ [] in

@@ -11,8 +11,23 @@ use Rattle.definition.specs.Text.{char-has, byte-is, star}
 use Rattle.definition.specs.Chars.{ascii-limit, is-digit, is-anywhite, is-op-char, is-symbolchar, is-uoperator}
 use Rattle.definition.specs.Tables.{Entry, cps, early-literals, kw-op-rules, op-tokens, mixfix-rules}
 use Rattle.definition.specs.Matchers.{
-  _then_, later, max-list, only, one, match-lit, plus, match-newline, match-ident, match-constructor, match-char-lit,
-  any-integer-ends, match-int-suffix, match-int-usuffix, match-real, match-bad-number, match-backtick-ident
+  _then_,
+  later,
+  max-list,
+  only,
+  one,
+  match-lit,
+  plus,
+  match-newline,
+  match-ident,
+  match-constructor,
+  match-char-lit,
+  any-integer-ends,
+  match-int-suffix,
+  match-int-usuffix,
+  match-real,
+  match-bad-number,
+  match-backtick-ident,
 }
 use Rattle.definition.specs.declared.Choice.{Choice}
 use Rattle.definition.specs.declared.Match.{Match}

@@ -32,43 +32,79 @@ state-words st =
 -- `st.cur := i`
 abbrev pub advance : State → ℕ → State
 advance st i = record {
-  offset = i; line = st .line; bol = st .bol; column = st .column;
-  comments = st .comments; mode = st .mode; depth = st .depth; comment = st .comment;
+  offset = i;
+  line = st .line;
+  bol = st .bol;
+  column = st .column;
+  comments = st .comments;
+  mode = st .mode;
+  depth = st .depth;
+  comment = st .comment;
 }
 
 -- `new_line`
 abbrev pub new-line : State → State
 new-line st = record {
-  offset = st .offset; line = st .line + 1; bol = st .offset; column = 0;
-  comments = st .comments; mode = st .mode; depth = st .depth; comment = st .comment;
+  offset = st .offset;
+  line = st .line + 1;
+  bol = st .offset;
+  column = 0;
+  comments = st .comments;
+  mode = st .mode;
+  depth = st .depth;
+  comment = st .comment;
 }
 
 -- the reading has ended, with EOF or ERROR
 abbrev pub ended : State → State
 ended st = record {
-  offset = st .offset; line = st .line; bol = st .bol; column = st .column;
-  comments = st .comments; mode = 2; depth = st .depth; comment = st .comment;
+  offset = st .offset;
+  line = st .line;
+  bol = st .bol;
+  column = st .column;
+  comments = st .comments;
+  mode = 2;
+  depth = st .depth;
+  comment = st .comment;
 }
 
 -- `add_comment`, as far as it counts
 abbrev pub one-more-comment : State → State
 one-more-comment st = record {
-  offset = st .offset; line = st .line; bol = st .bol; column = st .column;
-  comments = st .comments + 1; mode = st .mode; depth = st .depth; comment = st .comment;
+  offset = st .offset;
+  line = st .line;
+  bol = st .bol;
+  column = st .column;
+  comments = st .comments + 1;
+  mode = st .mode;
+  depth = st .depth;
+  comment = st .comment;
 }
 
 -- a call of `comment` from outside: one level is open, and its start is p
 abbrev pub open-comment : State → Pos → State
 open-comment st p = record {
-  offset = st .offset; line = st .line; bol = st .bol; column = st .column;
-  comments = st .comments; mode = 1; depth = 1; comment = p;
+  offset = st .offset;
+  line = st .line;
+  bol = st .bol;
+  column = st .column;
+  comments = st .comments;
+  mode = 1;
+  depth = 1;
+  comment = p;
 }
 
 -- a call of `comment` from inside: one level more
 abbrev pub deeper : State → State
 deeper st = record {
-  offset = st .offset; line = st .line; bol = st .bol; column = st .column;
-  comments = st .comments; mode = st .mode; depth = st .depth + 1; comment = st .comment;
+  offset = st .offset;
+  line = st .line;
+  bol = st .bol;
+  column = st .column;
+  comments = st .comments;
+  mode = st .mode;
+  depth = st .depth + 1;
+  comment = st .comment;
 }
 
 -- a return from `comment`: one level less, and with none left the comment is over
@@ -76,12 +112,24 @@ unfoldable pub close-comment : State → State
 close-comment st =
     elim (ltb 1 (st .depth)) [
       | true ↦ record {
-        offset = st .offset; line = st .line; bol = st .bol; column = st .column;
-        comments = st .comments + 1; mode = 1; depth = st .depth - 1; comment = st .comment;
+        offset = st .offset;
+        line = st .line;
+        bol = st .bol;
+        column = st .column;
+        comments = st .comments + 1;
+        mode = 1;
+        depth = st .depth - 1;
+        comment = st .comment;
       }
       | false ↦ record {
-        offset = st .offset; line = st .line; bol = st .bol; column = st .column;
-        comments = st .comments + 1; mode = 0; depth = 0; comment = no-pos;
+        offset = st .offset;
+        line = st .line;
+        bol = st .bol;
+        column = st .column;
+        comments = st .comments + 1;
+        mode = 0;
+        depth = 0;
+        comment = no-pos;
       }
     ]
 
@@ -106,7 +154,14 @@ sound s st =
 
 abbrev pub started : ℕ → ℕ → State
 started line column = record {
-  offset = 0; line = line; bol = 0; column = column; comments = 0; mode = 0; depth = 0; comment = no-pos;
+  offset = 0;
+  line = line;
+  bol = 0;
+  column = column;
+  comments = 0;
+  mode = 0;
+  depth = 0;
+  comment = no-pos;
 }
 
 unfoldable pub start : ℕ → ℕ → StartAnswer
