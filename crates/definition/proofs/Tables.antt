@@ -1,12 +1,84 @@
+-- The tables of the definition, each shown by one computed test: the lowercase ranges are what the source's string spells and
+-- ascend, the kinds are numbered 1 to 173, and every kind that a table or a rule names is one of them. Rests on nothing but the
+-- definition.
+use Prim.Native.Nat.{ℕ, _+_}
+use Prim.Native.String.{String}
 use mathlib.Core.Path.{_≡_, refl}
-use mathlib.Core.Bool.{Bool, true, false, _||_}
-use Rattle.definition.specs.ClassFile.{in-ranges, ascending}
-use Rattle.definition.specs.Lowercase.{ll-ranges, decode, decode-from, hex-digit, ll-tbl, flat, is-ll}
+use mathlib.Core.Bool.{Bool, true, false, _&&_, not}
+use mathlib.Core.List.{List, [], _∷_, _++_, map}
+use lib.Dec.{eqb}
+use Rattle.definition.specs.Basics.{again, done, if_then_else_}
+use Rattle.definition.specs.ClassFile.{ascending}
+use Rattle.definition.specs.Lowercase.{ll-ranges, decode, decode-from, hex-digit, ll-tbl, flat}
+use Rattle.definition.specs.Chars.{count-up}
+use Rattle.definition.specs.Kinds.{kind-names, number-from, kind}
+use Rattle.definition.specs.Tables.{keywords, constructors, op-tokens, uoperators, early-literals, kw-op-rules, mixfix-rules}
+use Rattle.definition.specs.State.{started}
+use Rattle.definition.specs.Token.{Token-turn, rules}
+use Rattle.definition.specs.Listed.{listed}
 
+-- ---- the lowercase letters
+
+-- the table is what `decode` makes of the source's string
 pub ll-decoded : decode ll-ranges ≡ flat ll-tbl
 unfolding ll-ranges decode decode-from hex-digit ll-tbl flat
 ll-decoded = refl
 
+-- "One test over the whole table shows that it ascends and never overlaps"
 pub ll-ascending : ascending 0 ll-tbl ≡ true
 unfolding ascending ll-tbl
 ll-ascending = refl
+
+-- ---- the kinds
+
+-- there are 173 names, each numbered by its place: so no name stands twice
+pub kinds-numbered : map kind kind-names ≡ count-up 1 173
+unfolding kind kind-names number-from count-up
+kinds-numbered = refl
+
+abbrev known : ℕ → Bool
+known k = not (eqb k 0)
+
+abbrev all-known : List ℕ → Bool
+all-known [] = true
+all-known (k ∷ ks) = known k && all-known ks
+
+-- every kind that a table names is one of them
+pub tables-known : all-known
+    (map (λ e. kind (e .1))
+    (keywords ++ (constructors ++ (op-tokens ++ (uoperators ++ (early-literals ++ (kw-op-rules ++ mixfix-rules))))))
+    ++ map (λ e. kind (e .2)) kw-op-rules)
+    ≡ true
+unfolding kind kind-names number-from keywords constructors op-tokens uoperators early-literals kw-op-rules mixfix-rules
+tables-known = refl
+
+-- ---- the rules
+
+-- the kind of what a rule gives; 0 for one that skips, as for a comment
+abbrev gives : Token-turn → ℕ
+gives (again st) = 0
+gives (done t) = t .item .kind
+
+-- what each place gives, tried on a text of one character and on the first word of its table: places 7, 8 and 29 skip, 28 and 30
+-- give comments, and an open blob and an open string are errors
+abbrev given-by-place : List String
+given-by-place =
+    "SPLICE" ∷ "ERROR" ∷ "USE_LANG_BLOB" ∷ "STRING" ∷ "INT" ∷ "STRING" ∷ "" ∷ "" ∷ "CHAR" ∷ "CHAR"
+    ∷ "BACKTICK" ∷ "MATCH" ∷ "SEMICOLON_OP" ∷ "IDENT" ∷ "NAME" ∷ "INT" ∷ "UINT8" ∷ "INT8" ∷ "UINT16" ∷ "INT16"
+    ∷ "UINT32" ∷ "INT32" ∷ "UINT64" ∷ "INT64" ∷ "SIZET" ∷ "REAL" ∷ "ERROR" ∷ "" ∷ "" ∷ ""
+    ∷ "ERROR" ∷ "IDENT" ∷ "PIPE_LEFT" ∷ "PIPE_RIGHT" ∷ "DOT_DOT" ∷ "TILDE" ∷ "OPINFIX0c" ∷ "OPINFIX0c" ∷ "OPINFIX3R" ∷ "OPINFIX4"
+    ∷ "OPPREFIX" ∷ "OPINFIX0a" ∷ "OPINFIX0b" ∷ "OPINFIX0c" ∷ "OPINFIX0d" ∷ "OPINFIX1" ∷ "OPINFIX2" ∷ "OPINFIX3L" ∷ "OPINFIX4" ∷ "OP_MIXFIX_ASSIGNMENT"
+    ∷ []
+
+pub rules-known : map (λ r. gives (r (started 1 0) 1 0)) (rules (0 ∷ []) [] []) ≡ map kind given-by-place
+unfolding listed
+rules-known = refl
+
+-- and every name of that list is one of the 173, but for the five that stand for no token
+abbrev unknown : List ℕ → ℕ
+unknown [] = 0
+unknown (k ∷ ks) = if known k then unknown ks else 1 + unknown ks
+
+pub places-known : unknown (map kind given-by-place) ≡ 5
+unfolding kind kind-names number-from
+places-known = refl
