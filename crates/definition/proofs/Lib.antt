@@ -1,3 +1,4 @@
 mod Tables
 mod Cases
 mod Limits
+pub mod Closing

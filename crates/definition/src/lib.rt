@@ -1,6 +1,9 @@
-// The types that all layers share. What they mean stands in specs/, which is the definition of the whole lexer.
-// There is no function here, so nothing is proved of this file itself; proofs/ shows that the definition computes
-// document 01's cases, and that no fuel in it runs out.
+// The types that all layers share, and the methods of the lexing state. What they mean stands in specs/, which is the
+// definition of the whole lexer. Proved: each method is the definition's change of the state, and (in proofs/) the
+// definition computes document 01's cases. Assumed: nothing.
+ghost use mathlib.Core.Path.{_≡_};
+ghost use Prim.Native.Nat.{_<_};
+ghost use Rattle.definition.specs.State.{advance, new-line, deeper, open-comment, close-comment};
 
 // What stands at an offset of some bytes: a legal UTF-8 sequence, as its code point and its width in bytes;
 // bytes that no legal sequence starts; or the end.
@@ -53,6 +56,64 @@ pub struct State {
     pub mode: u32,
     pub depth: u32,
     pub comment: Pos,
+}
+
+impl State {
+    // The state that has read up to byte i.
+    pub fn advance(mut self, i: u32) -> State
+        ensures { λ r. ⌜ r ≡ advance self i ⌝ }
+    {
+        self.offset = i;
+        self
+    }
+
+    // A line end was read: the next line begins here.
+    pub fn new_line(mut self) -> State
+        requires { ⌜ self .line < 4294967295 ⌝ }
+        ensures { λ r. ⌜ r ≡ new-line self ⌝ }
+    {
+        self.line += 1;
+        self.bol = self.offset;
+        self.column = 0;
+        self
+    }
+
+    // A comment that began at p was opened.
+    pub fn open_comment(mut self, p: Pos) -> State
+        ensures { λ r. ⌜ r ≡ open-comment self p ⌝ }
+    {
+        self.mode = 1;
+        self.depth = 1;
+        self.comment = p;
+        self
+    }
+
+    // A comment inside the comment was opened.
+    pub fn deeper(mut self) -> State
+        requires { ⌜ self .depth < 4294967295 ⌝ }
+        ensures { λ r. ⌜ r ≡ deeper self ⌝ }
+    {
+        self.depth += 1;
+        self
+    }
+
+    // A level of the comment was closed; with none left the comment is over.
+    pub fn close_comment(mut self) -> State
+        requires { ⌜ self .comments < 4294967295 ⌝ }
+        ensures { λ r. ⌜ r ≡ close-comment self ⌝ }
+    {
+        self.comments += 1;
+        if 1 < self.depth {
+            self.mode = 1;
+            self.depth -= 1;
+            return self;
+        }
+        let nowhere = Pos { line: 0, col: 0 };
+        self.mode = 0;
+        self.depth = 0;
+        self.comment = nowhere;
+        self
+    }
 }
 
 // What an item holds besides its kind, its range and its payload: the source's `extra`, and a comment's mark.
