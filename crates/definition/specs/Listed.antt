@@ -95,7 +95,7 @@ use Rattle.definition.specs.Numbers.{
 }
 use Rattle.definition.specs.Escapes.{code-at, hex-value, unescape, is-surrogate}
 use Rattle.definition.specs.Trim.{onto-first, split-lines, join-lines, empty-prefix, trim-width, maybe-trim-lines}
-use Rattle.definition.specs.State.{close-comment, at-character, sound, start}
+use Rattle.definition.specs.State.{close-comment, at-character, place-sound, counts-sound, depth-sound, comment-sound, sound, start}
 use Rattle.definition.specs.Comment.{after, comment-stop, comment, line-comment}
 use Rattle.definition.specs.Strings.{string-stop, escape-turn, string-lit}
 use Rattle.definition.specs.Blob.{blob-stop, blob, use-lang}
@@ -140,7 +140,7 @@ unfolding
     match-char match-char-lit match-integer match-xinteger any-integer-ends match-int-suffix match-int-usuffix match-floatp skip-sign is-e
     match-floate match-real match-bad-number match-backtick-ident no-comment keep try-words try-all one-of-then-symbols lit-then-symbols
     places select strips strip-left behind strip-right clean-number digit-value value-from base-of after-zero int-of-string show code-at
-    hex-value unescape is-surrogate onto-first split-lines join-lines empty-prefix trim-width maybe-trim-lines close-comment at-character
+    hex-value unescape is-surrogate onto-first split-lines join-lines empty-prefix trim-width maybe-trim-lines close-comment at-character place-sound counts-sound depth-sound comment-sound
     sound start after comment-stop comment line-comment string-stop escape-turn string-lit blob-stop blob use-lang starts-with rules act
     token-turn next-token step put run-turn run-items text-too-long name-too-long refusal run
 listed text classes =

@@ -139,16 +139,30 @@ close-comment st =
 unfoldable pub at-character : Bytes → ℕ → Bool
 at-character s i = if ltb i (length s) then not (is-continuation (getD s i 0)) else eqb i (length s)
 
+-- "both offsets stand on a character's first byte or the text's end; the line start isn't past the offset"
+unfoldable pub place-sound : Bytes → State → Bool
+place-sound s st = at-character s (st .offset) && (at-character s (st .bol) && leb (st .bol) (st .offset))
+
+-- "the line is at most 1,000,000 plus the offset; the line-start column is at most 1,000,000; comments and depth together are at
+-- most the offset; the mode is 0, 1 or 2"
+unfoldable pub counts-sound : State → Bool
+counts-sound st =
+    leb (st .line) (1000000 + st .offset)
+    && (leb (st .column) 1000000 && (leb (st .comments + st .depth) (st .offset) && leb (st .mode) 2))
+
+-- "depth is at least 1 in mode 1; depth and comment start are 0 otherwise"
+unfoldable pub depth-sound : State → Bool
+depth-sound st =
+    if eqb (st .mode) 1
+    then leb 1 (st .depth)
+    else (eqb (st .depth) 0 && (eqb (st .comment .line) 0 && eqb (st .comment .col) 0))
+
+-- "the comment start's line is at most the line, its column at most 2,048,576"
+unfoldable pub comment-sound : State → Bool
+comment-sound st = leb (st .comment .line) (st .line) && leb (st .comment .col) 2048576
+
 unfoldable pub sound : Bytes → State → Bool
-sound s st =
-    (at-character s (st .offset) && at-character s (st .bol))
-    && (leb (st .bol) (st .offset)
-    && (leb (st .line) (1000000 + st .offset)
-    && (leb (st .column) 1000000
-    && (leb (st .comments + st .depth) (st .offset)
-    && (leb (st .mode) 2
-    && ((if eqb (st .mode) 1 then leb 1 (st .depth) else (eqb (st .depth) 0 && (eqb (st .comment .line) 0 && eqb (st .comment .col) 0)))
-    && (leb (st .comment .line) (st .line) && leb (st .comment .col) 2048576)))))))
+sound s st = place-sound s st && (counts-sound st && (depth-sound st && comment-sound st))
 
 -- ---- document 01, "Start"
 

@@ -1,0 +1,2 @@
+mod Ladders
+mod Starting
