@@ -1,11 +1,11 @@
 // Columns and positions. A column goes on from the last one that is known, so that a line of n bytes costs n bytes of
-// counting over all of its items. Proved: the count is the definition's, the column of an offset is the definition's
-// whatever is cached, and the cache handed back is right again. Assumed: nothing.
+// counting over all of its items. Proved: the count is the definition's, and the column of an offset is the
+// definition's whatever is cached, so that the cache handed back is right again. Assumed: nothing.
 ghost use mathlib.Core.Path.{_≡_};
 ghost use Prim.Native.Nat.{_-_, _≤_};
 ghost use lib.ListN.{length};
-ghost use Rattle.definition.specs.Position.{count-chars, one-each, col-of, pos-of};
-ghost use Rattle.positions.specs.Columns.{unit, Place, Known};
+ghost use Rattle.definition.specs.Position.{count-chars, one-each};
+ghost use Rattle.positions.specs.Columns.{unit, Asked, column-at, located};
 use definition::Pos;
 use definition::State;
 
@@ -15,14 +15,21 @@ pub struct Cache {
     pub col: u32,
 }
 
+// A position, and what is known after it was asked for.
+pub struct Located {
+    pub pos: Pos,
+    pub known: Cache,
+}
+
 // What a byte counts in a column.
 fn unit(b: u8) -> usize
     ensures { λ r. ⌜ r ≡ unit b ⌝ }
 {
-    if 0x80 <= b {
-        if b <= 0xBF {
-            return 0;
-        }
+    if b < 0x80 {
+        return 1;
+    }
+    if b <= 0xBF {
+        return 0;
     }
     1
 }
@@ -39,4 +46,43 @@ pub fn count_chars(text: &[u8], i: usize, j: usize) -> usize
         k += 1;
     }
     n
+}
+
+// The source's `col_of`, by value: the offset asked for, with its column. It counts on from the known offset, or from
+// the line start where the known offset is past the one asked for.
+pub fn col_of(text: &[u8], st: State, known: Cache, i: u32) -> Cache
+    requires { ⌜ Asked (now text) st known i ⌝ }
+    ensures { λ r. ⌜ r ≡ column-at (now (text .entry)) st i ⌝ }
+{
+    let to = i as usize;
+    if known.off <= i {
+        let from = known.off as usize;
+        let n = count_chars(text, from, to);
+        return Cache {
+            off: i,
+            col: known.col + n as u32,
+        };
+    }
+    let from = st.bol as usize;
+    let n = count_chars(text, from, to);
+    Cache {
+        off: i,
+        col: st.column + n as u32,
+    }
+}
+
+// The source's `pos_of`.
+pub fn pos_of(text: &[u8], st: State, known: Cache, i: u32) -> Located
+    requires { ⌜ Asked (now text) st known i ⌝ }
+    ensures { λ r. ⌜ r ≡ located (now (text .entry)) st i ⌝ }
+{
+    let here = col_of(text, st, known, i);
+    let pos = Pos {
+        line: st.line,
+        col: here.col,
+    };
+    Located {
+        pos: pos,
+        known: here,
+    }
 }

@@ -1,48 +1,44 @@
-use native.Mathlib.Omega.{arith}
+-- The invariant is `Counting`: what is counted, and that the count of what is left makes it whole. The measure is what is left.
 use borrow.Author.Needs.{needs}
+use native.Mathlib.Omega.{arith}
+use Prim.Native.Nat.{_-_, _≤_}
+use mathlib.Core.Path.{_≡_, sym}
+use Rattle.positions.proofs.Counting.{Counting, unit-small, counting-starts, counting-goes-on, counting-ends}
 use Rattle.positions.proofs.count_chars.Statement.{statement}
 use Rattle.positions.proofs.count_chars.Tie as tie
-use Rattle.positions.proofs.count_chars.Reads as reads
-use Rattle.positions.proofs.count_chars.Lts as lts
-use Rattle.positions.proofs.unit.Reads as unit-reads
 
 abbrev Inv-loop : tie.InvT-loop
-Inv-loop text i j n₀ k₀ n k = ?
+Inv-loop text i j n₀ k₀ n k = Counting text i j n k
 
 abbrev μ-loop : tie.MeasureT-loop
-μ-loop text i j n₀ k₀ n k = ?
+μ-loop text i j n₀ k₀ n k = j - k
 
--- src/lib.rt:38:5
 loop-holds : tie.Need-loop-holds Inv-loop μ-loop
-loop-holds c = ?
+loop-holds c = counting-starts _ _ _
 
--- src/lib.rt:39:19
 shared-slice-read-unit : tie.Need-shared-slice-read-unit Inv-loop μ-loop
-shared-slice-read-unit c = ?
+shared-slice-read-unit c = omega arith
 
--- src/lib.rt:39:14
 unit-requires : tie.Need-unit-requires Inv-loop μ-loop
-unit-requires c κs = ?
+unit-requires c κs = search needs
 
--- src/lib.rt:39:9
 add-n : tie.Need-add-n Inv-loop μ-loop
-add-n c = ?
+add-n c =
+    let i = c .before .before .before .loop .inv .few in
+    let u : c .unit .result ≤ 1 = rw (c .unit .ensures) (unit-small _) in
+    omega arith
 
--- src/lib.rt:40:9
 add-k : tie.Need-add-k Inv-loop μ-loop
-add-k c = ?
+add-k c = omega arith
 
--- src/lib.rt:38:5
 loop-less : tie.Need-loop-less Inv-loop μ-loop
-loop-less c = ?
+loop-less c = omega arith
 
--- src/lib.rt:38:5
 loop-again : tie.Need-loop-again Inv-loop μ-loop
-loop-again c = ?
+loop-again c = rw (c .unit .ensures) (counting-goes-on _ _ _ _ _ (c .before .before .loop-test .taken) (c .before .before .before .loop .inv))
 
--- src/lib.rt:32:1
 returns : tie.Need-returns Inv-loop μ-loop
-returns c = ?
+returns c = counting-ends _ _ _ _ _ (c .loop-test .left) (c .before .loop .inv)
 
 pub count-chars-spec : {M : Type 1} → statement M
 count-chars-spec =

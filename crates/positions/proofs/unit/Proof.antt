@@ -1,21 +1,17 @@
-use native.Mathlib.Omega.{arith}
+-- A byte below 80 and one above BF count 1, those between 0.
 use borrow.Author.Needs.{needs}
+use Rattle.positions.proofs.Counting.{below-tails, in-tails, above-tails}
 use Rattle.positions.proofs.unit.Statement.{statement}
 use Rattle.positions.proofs.unit.Tie as tie
-use Rattle.positions.proofs.unit.Reads as reads
-use Rattle.positions.proofs.unit.Lts as lts
 
--- src/lib.rt:25:13
 returns : tie.Need-returns
-returns c = ?
+returns c = below-tails _ (c .if1 .taken)
 
--- src/lib.rt:20:1
 returns-2 : tie.Need-returns-2
-returns-2 c = ?
+returns-2 c = in-tails _ (c .before .if1 .left) (c .if2 .taken)
 
--- src/lib.rt:20:1
 returns-3 : tie.Need-returns-3
-returns-3 c = ?
+returns-3 c = above-tails _ (c .before .if1 .left) (c .if2 .left)
 
 pub unit-spec : {M : Type 1} → statement M
 unit-spec = tie.close (tie.spec returns returns-2 returns-3)
