@@ -1,0 +1,52 @@
+-- By cases on the test or on the match that a definition goes by, keeping what the case says. Rests on nothing.
+use Prim.Native.Nat.{ℕ, _≤_, _<_}
+use mathlib.Core.Path.{_≡_, refl}
+use mathlib.Core.Bool.{Bool, true, false, _&&_, _||_, false≢true}
+use lib.Dec.{ltb, leb}
+use borrow.Author.Tests.{ltb-true, ltb-false, leb-true, leb-false}
+use Rattle.definition.specs.Basics.{if_then_else_}
+use Rattle.definition.specs.declared.Match.{Match}
+use Rattle.definition.specs.declared.Match.the-variants.{To, Nothing}
+
+module _ {X : Type 0} (P : X → Type 0) where
+  -- by a test
+  pub by-test : (t : Bool) {x y : X} → (t ≡ true → P x) → (t ≡ false → P y) → P (elim t [ true ↦ x | false ↦ y ])
+  by-test true f g = f refl
+  by-test false f g = g refl
+
+  -- by an order test
+  pub by-lt : (a b : ℕ) {x y : X} → (a < b → P x) → (b ≤ a → P y) → P (elim (ltb a b) [ true ↦ x | false ↦ y ])
+  by-lt a b f g = by-test (ltb a b) (λ e. f (ltb-true a b e)) (λ e. g (ltb-false a b e))
+
+  -- the same of the other order test
+  pub by-le : (a b : ℕ) {x y : X} → (a ≤ b → P x) → (b < a → P y) → P (elim (leb a b) [ true ↦ x | false ↦ y ])
+  by-le a b f g = by-test (leb a b) (λ e. f (leb-true a b e)) (λ e. g (leb-false a b e))
+
+  -- the same of `if_then_else_`
+  pub by-if : (t : Bool) {x y : X} → (t ≡ true → P x) → (t ≡ false → P y) → P (if t then x else y)
+  by-if true f g = f refl
+  by-if false f g = g refl
+
+  -- by an order test of `if_then_else_`
+  pub by-if-lt : (a b : ℕ) {x y : X} → (a < b → P x) → (b ≤ a → P y) → P (if ltb a b then x else y)
+  by-if-lt a b f g = by-if (ltb a b) (λ e. f (ltb-true a b e)) (λ e. g (ltb-false a b e))
+
+  -- by what a matcher found
+  pub by-match : (m : Match) {x : ℕ → X} {y : X} → ((e : ℕ) → m ≡ To e → P (x e)) → (m ≡ Nothing → P y) → P (elim m [ To e ↦ x e | Nothing ↦ y ])
+  by-match (To e) f g = f e refl
+  by-match Nothing f g = g refl
+
+-- both tests of a conjunction pass
+pub both : (a b : Bool) → a && b ≡ true → (a ≡ true) × (b ≡ true)
+both true b e = (refl, e)
+both false b e = absurd (false≢true e)
+
+-- where both pass, so does the conjunction
+pub both-true : (a b : Bool) → a ≡ true → b ≡ true → a && b ≡ true
+both-true true b p q = q
+both-true false b p q = absurd (false≢true p)
+
+-- what holds where either test of a disjunction passes holds where the disjunction does
+pub either : {X : Type 0} (a b : Bool) → (a ≡ true → X) → (b ≡ true → X) → a || b ≡ true → X
+either true b f g e = f refl
+either false b f g e = g e

@@ -1,0 +1,17 @@
+pub mod Loops
+pub mod Cases
+pub mod Lists
+pub mod Characters
+pub mod Walks
+pub mod Ends
+pub mod Matches
+pub mod Words
+pub mod Choices
+pub mod Scans
+pub mod Moves
+pub mod Comments
+pub mod Literals
+pub mod Cuts
+pub mod Tokens
+pub mod Items
+pub mod Fuel
