@@ -1,0 +1,4 @@
+pub mod Reading
+pub mod Character
+pub mod Runs
+pub mod Star
