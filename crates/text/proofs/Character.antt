@@ -1,14 +1,13 @@
 -- One character: what `sequence-at` reads is what `encode` writes, and the other way round, at any offset of any bytes.
 -- Rests on `definition` and on `lemmas`.
-use Prim.Native.Nat.{ℕ, zero, suc, _+_, _-_, _*_, _/_, _%_, _≤_, _<_}
+use Prim.Native.Nat.{ℕ, _+_, _-_, _*_, _/_, _%_, _≤_, _<_}
 use mathlib.Core.Path.{_≡_, refl, sym, ap, ap₂, subst, _∙_}
-use mathlib.Core.List.{List, [], _∷_, _++_}
+use mathlib.Core.List.{[], _∷_, _++_}
 use mathlib.Core.Logic.{_⊎_, inl, inr}
 use native.Mathlib.Omega.{arith}
-use lib.Dec.{ltb}
 use lib.ListN.{length, getD, drop, length-append, length-drop}
 use lib.Seq.{drop-at, drop-drop}
-use Rattle.definition.specs.Basics.{Bytes, if_then_else_}
+use Rattle.definition.specs.Basics.{Bytes}
 use Rattle.definition.specs.Utf8.{encode, Scalar, tail-bits, two, three, three-bytes, four, four-bytes, sequence, sequence-at}
 use Rattle.definition.specs.declared.Sequence.{Sequence}
 use Rattle.definition.specs.declared.Sequence.the-variants.{Char, Bad, End}
@@ -128,11 +127,11 @@ read-encode c sc rest =
 
 -- ---- what is read was written
 
--- What is read of the bytes l is right: a character is a scalar value, and l begins with its encoding.
+-- What is read of the bytes l is right: a character is a scalar value, and l begins with its encoding; and the end is read of no bytes.
 abbrev Reads : Bytes → Sequence → Type 0
 Reads l (Char c w) = Scalar c × (w ≡ length (encode c)) × (l ≡ encode c ++ drop w l)
 Reads l Bad = Unit {0}
-Reads l End = Unit {0}
+Reads l End = length l ≡ 0
 
 -- A byte whose bits are six is 80 and those bits.
 tail-byte : (b : ℕ) → tail-bits b < 64 → b ≡ 0x80 + tail-bits b
@@ -251,7 +250,7 @@ reads-4 b x (d ∷ f ∷ g ∷ l) e =
 -- Whatever the bytes are, what is read at their start is right.
 reads : (l : Bytes) → Reads l (sequence-at l 0)
 unfolding sequence
-reads [] = rw (read-end [] 0 (omega arith)) tt
+reads [] = rw (read-end [] 0 (omega arith))
 reads (b ∷ l) =
     rw read-first
     (by-lt R b 0x80 (λ h. spelled (b ∷ []) l (record { small = omega arith; plain = inl (omega arith) }) (encode-1 b h) refl)
@@ -270,6 +269,12 @@ pub char-read : {s : Bytes} {i c w : ℕ} → sequence-at s i ≡ Char c w → C
 char-read {s} {i} {c} {w} e =
     let r : Reads (drop i s) (Char c w) = subst (Reads (drop i s)) (sym (read-shift s i) ∙ e) (reads (drop i s)) in
     record { scalar = r .0; width = r .1; bytes = r .2 ∙ ap (λ (q : Bytes). encode c ++ q) (drop-drop w i s) }
+
+-- Only past the end the end is read.
+pub end-read : (s : Bytes) (i : ℕ) → sequence-at s i ≡ End → length s ≤ i
+end-read s i e =
+    let r : Reads (drop i s) End = subst (Reads (drop i s)) (sym (read-shift s i) ∙ e) (reads (drop i s)) in
+    omega (arith, r, length-drop i s)
 
 -- A scalar value whose encoding stands at i is read there.
 pub read-at : (s : Bytes) (i c : ℕ) (rest : Bytes) → Scalar c → drop i s ≡ encode c ++ rest → sequence-at s i ≡ Char c (length (encode c))

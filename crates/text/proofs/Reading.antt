@@ -1,7 +1,7 @@
 -- What `sequence-at`, `byte`, `get` and `next` are, an equation for each arm of their definitions. Rests on `definition` and on `lemmas`.
-use Prim.Native.Nat.{ℕ, suc, _+_, _≤_, _<_}
+use Prim.Native.Nat.{ℕ, _+_, _≤_, _<_}
 use mathlib.Core.Path.{_≡_, refl, sym, ap, _∙_}
-use mathlib.Core.List.{List, [], _∷_}
+use mathlib.Core.List.{_∷_}
 use native.Mathlib.Nat.{add-zero}
 use native.Mathlib.Omega.{arith}
 use lib.ListN.{length, getD, drop, length-drop}
@@ -11,11 +11,8 @@ use Rattle.definition.specs.Utf8.{sequence, sequence-at}
 use Rattle.definition.specs.Text.{with-char, get, next, byte}
 use Rattle.definition.specs.declared.Sequence.{Sequence}
 use Rattle.definition.specs.declared.Sequence.the-variants.{Char, Bad, End}
-use Rattle.definition.specs.declared.Letter.{Letter}
 use Rattle.definition.specs.declared.Letter.the-variants.{Code, Past}
-use Rattle.definition.specs.declared.Octet.{Octet}
 use Rattle.definition.specs.declared.Octet.the-variants.{Byte, Past as No-byte}
-use Rattle.definition.specs.declared.Match.{Match}
 use Rattle.definition.specs.declared.Match.the-variants.{To, Nothing}
 use Rattle.lemmas.proofs.Tests.{tests, by-order}
 

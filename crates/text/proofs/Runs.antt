@@ -1,7 +1,7 @@
 -- Runs of characters: induction over the characters of a text, the characters that are read from an offset on, and that bytes are the
 -- encoding of one list of scalar values at most. Rests on `definition`, `lemmas` and the laws of one character.
-use Prim.Native.Nat.{ℕ, zero, suc, _+_, _≤_, _<_}
-use mathlib.Core.Path.{_≡_, refl, sym, ap, ap₂, subst, _∙_}
+use Prim.Native.Nat.{ℕ, zero, suc, _+_, _≤_}
+use mathlib.Core.Path.{_≡_, refl, sym, ap, ap₂, _∙_}
 use mathlib.Core.List.{List, [], _∷_, _++_, append-assoc, append-nil}
 use native.Mathlib.Omega.{arith}
 use lib.ListN.{length, drop, length-append, length-drop}
@@ -10,7 +10,7 @@ use Rattle.definition.specs.Basics.{Bytes}
 use Rattle.definition.specs.Utf8.{encode, Scalar, Scalars, encode-all, sequence-at}
 use Rattle.definition.specs.declared.Sequence.{Sequence}
 use Rattle.definition.specs.declared.Sequence.the-variants.{Char, Bad, End}
-use Rattle.text.specs.Chars.{CharAt, chars, chars-from}
+use Rattle.text.specs.Chars.{chars, chars-from}
 use Rattle.text.proofs.Reading.{read-end, No-char, with-none}
 use Rattle.text.proofs.Character.{char-read, char-within, read-encode, read-at, encode-size}
 

@@ -1,25 +1,19 @@
 -- `star` turn by turn, with no fuel to see, and what it is of the characters. Rests on `definition`, `lemmas` and the laws of runs.
-use Prim.Native.Nat.{ℕ, zero, suc, _+_, _≤_, _<_}
+use Prim.Native.Nat.{ℕ, zero, suc, _+_, _≤_}
 use mathlib.Core.Path.{_≡_, refl, sym, ap, _∙_}
 use mathlib.Core.Bool.{Bool, true, false}
 use mathlib.Core.List.{List, [], _∷_}
-use native.Mathlib.Nat.{add-zero}
 use native.Mathlib.Omega.{arith}
 use lib.ListN.{length, length-append}
 use Rattle.definition.specs.Basics.{Bytes, Turn, again, done, loop}
 use Rattle.definition.specs.Utf8.{encode, encode-all, sequence-at}
 use Rattle.definition.specs.Text.{star-turn, star}
-use Rattle.definition.specs.declared.Sequence.{Sequence}
-use Rattle.definition.specs.declared.Sequence.the-variants.{Char, Bad, End}
-use Rattle.text.specs.Chars.{CharAt, chars-from, take-while}
+use Rattle.definition.specs.declared.Sequence.the-variants.{Char}
+use Rattle.lemmas.proofs.Tests.{by-outcome}
+use Rattle.text.specs.Chars.{chars-from, take-while}
 use Rattle.text.proofs.Reading.{No-char, with-none}
 use Rattle.text.proofs.Character.{char-read, char-within}
 use Rattle.text.proofs.Runs.{by-turns, by-chars, chars-on, chars-none}
-
--- What holds of either outcome of a test, where it is the outcome, holds.
-either : {X : Type 0} (t : Bool) → (t ≡ true → X) → (t ≡ false → X) → X
-either true f g = f refl
-either false f g = g refl
 
 -- A turn that calls again takes one turn of the fuel.
 loop-goes : {A R : Type 0} (turn : A → Turn A R) (out : A → R) (n : ℕ) {a b : A} → turn a ≡ again b → loop turn out (suc n) a ≡ loop turn out n b
@@ -60,7 +54,7 @@ module _ (f : ℕ → Bool) (s : Bytes) where
     where
       on : (n m i c w : ℕ) → sequence-at s i ≡ Char c w → walk n (i + w) ≡ walk m (i + w) → walk (suc n) i ≡ walk (suc m) i
       on n m i c w e ih =
-          either (f c)
+          by-outcome (f c)
           (λ t. walk-on n i c w e t ∙ ih ∙ sym (walk-on m i c w e t))
           (λ t. walk-stop (suc n) i c w e t ∙ sym (walk-stop (suc m) i c w e t))
 
@@ -92,7 +86,7 @@ module _ (f : ℕ → Bool) (s : Bytes) where
     where
       turn : (i c w : ℕ) → sequence-at s i ≡ Char c w → P (i + w) (star f s (i + w)) → P i (star f s i)
       turn i c w e ih =
-          either (f c)
+          by-outcome (f c)
           (λ t. rw (star-on i c w e t) (on i c w (star f s (i + w)) e t ih))
           (λ t. rw (star-stop i c w e t) (stop i c w e t))
 

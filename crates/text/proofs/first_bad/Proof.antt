@@ -1,3 +1,5 @@
+-- `first_bad` is the definition's `first-bad`. The invariant: the run of characters from `i` ends where the run from 0 does. A byte
+-- below 80 is a character by itself, so the two ways round the loop both pass one character. The measure is what is left of the text.
 use native.Mathlib.Omega.{arith}
 use borrow.Author.Needs.{needs}
 use Prim.Native.Nat.{ℕ, _+_, _-_, _<_}
@@ -15,9 +17,6 @@ use Rattle.text.proofs.Character.{char-read, char-within}
 use Rattle.text.proofs.Star.{star-on, star-none}
 use Rattle.text.proofs.first_bad.Statement.{statement}
 use Rattle.text.proofs.first_bad.Tie as tie
-use Rattle.text.proofs.first_bad.Reads as reads
-use Rattle.text.proofs.first_bad.Lts as lts
-use Rattle.text.proofs.sequence_at.Reads as sequence-at-reads
 
 -- Any character passes.
 abbrev any : ℕ → Bool
@@ -42,78 +41,63 @@ Inv-loop text i₀ i = star any text i ≡ first-bad text
 abbrev μ-loop : tie.MeasureT-loop
 μ-loop text i₀ i = length text - i
 
--- src/lib.rt:177:5
 loop-holds : tie.Need-loop-holds Inv-loop μ-loop
 unfolding first-bad
 loop-holds c = refl
 
--- src/lib.rt:178:12
 shared-slice-read-if1 : tie.Need-shared-slice-read-if1 Inv-loop μ-loop
 shared-slice-read-if1 c = search needs
 
--- src/lib.rt:179:13
 add-i : tie.Need-add-i Inv-loop μ-loop
 add-i c = search needs
 
--- src/lib.rt:177:5
 loop-less : tie.Need-loop-less Inv-loop μ-loop
 loop-less c = omega arith
 
--- src/lib.rt:177:5
 loop-again : tie.Need-loop-again Inv-loop μ-loop
 loop-again c =
     let d = c .before .before in
     over _ _ (ascii _ _ (d .loop-test .taken) (c .if1 .taken)) (d .before .loop .inv)
 
--- src/lib.rt:182:15
 sequence-at-requires : tie.Need-sequence-at-requires Inv-loop μ-loop
 sequence-at-requires c κs = tt
 
--- src/lib.rt:183:31
 enum-known-width : tie.Need-enum-known-width Inv-loop μ-loop
 enum-known-width c = search needs
 
--- src/lib.rt:184:17
 add-i-2 : tie.Need-add-i-2 Inv-loop μ-loop
 add-i-2 c =
     let d = c .before .before .before in
     let w = char-within (char-read (sym (d .sequence-at .ensures) ∙ c .before .width .given .1)) in
     search (needs, w)
 
--- src/lib.rt:177:5
 loop-less-2 : tie.Need-loop-less-2 Inv-loop μ-loop
 loop-less-2 c =
     let d = c .before .before .before in
     let w = char-within (char-read (sym (d .sequence-at .ensures) ∙ c .before .width .given .1)) in
     omega (arith, w)
 
--- src/lib.rt:177:5
 loop-again-2 : tie.Need-loop-again-2 Inv-loop μ-loop
 loop-again-2 c =
     let d = c .before .before .before in
     over _ _ (sym (d .sequence-at .ensures) ∙ c .before .width .given .1) (d .before .before .before .before .loop .inv)
 
--- src/lib.rt:187:17
 enum-told : tie.Need-enum-told Inv-loop μ-loop
 enum-told c = search needs
 
--- src/lib.rt:187:17
 returns : tie.Need-returns Inv-loop μ-loop
 returns c =
     let d = c .before .before in
     here _ _ (sym (d .sequence-at .ensures) ∙ c .enum-told .given .1) tt (d .before .before .before .before .loop .inv)
 
--- src/lib.rt:190:17
 enum-told-2 : tie.Need-enum-told-2 Inv-loop μ-loop
 enum-told-2 c = search needs
 
--- src/lib.rt:190:17
 returns-2 : tie.Need-returns-2 Inv-loop μ-loop
 returns-2 c =
     let d = c .before .before in
     here _ _ (sym (d .sequence-at .ensures) ∙ c .enum-told2 .given .1) tt (d .before .before .before .before .loop .inv)
 
--- src/lib.rt:173:1
 returns-3 : tie.Need-returns-3 Inv-loop μ-loop
 returns-3 c = here _ _ (read-end _ _ (c .loop-test .left)) tt (c .before .loop .inv)
 

@@ -1,56 +1,43 @@
+-- `four` is the definition's `four`, test by test.
 use borrow.Author.Needs.{needs}
 use Rattle.definition.specs.Utf8.{four}
 use Rattle.lemmas.proofs.Tests.{tests}
 use Rattle.text.proofs.four.Statement.{statement}
 use Rattle.text.proofs.four.Tie as tie
-use Rattle.text.proofs.four.Reads as reads
-use Rattle.text.proofs.four.Lts as lts
-use Rattle.text.proofs.four_bytes.Reads as four-bytes-reads
 
--- src/lib.rt:99:9
 returns : tie.Need-returns
 unfolding four
 returns c = search (tests, needs)
 
--- src/lib.rt:102:9
 returns-2 : tie.Need-returns-2
 unfolding four
 returns-2 c = search (tests, needs)
 
--- src/lib.rt:105:9
 returns-3 : tie.Need-returns-3
 unfolding four
 returns-3 c = search (tests, needs)
 
--- src/lib.rt:107:16
 mul-four-bytes : tie.Need-mul-four-bytes
 mul-four-bytes c = search needs
 
--- src/lib.rt:107:29
 mul-four-bytes-2 : tie.Need-mul-four-bytes-2
 mul-four-bytes-2 c = search needs
 
--- src/lib.rt:107:16
 add-four-bytes : tie.Need-add-four-bytes
 add-four-bytes c = search needs
 
--- src/lib.rt:107:40
 mul-four-bytes-3 : tie.Need-mul-four-bytes-3
 mul-four-bytes-3 c = search needs
 
--- src/lib.rt:107:16
 add-four-bytes-2 : tie.Need-add-four-bytes-2
 add-four-bytes-2 c = search needs
 
--- src/lib.rt:107:16
 add-four-bytes-3 : tie.Need-add-four-bytes-3
 add-four-bytes-3 c = search needs
 
--- src/lib.rt:107:5
 four-bytes-requires : tie.Need-four-bytes-requires
 four-bytes-requires c κs = search needs
 
--- src/lib.rt:94:1
 returns-4 : tie.Need-returns-4
 unfolding four
 returns-4 c = search (tests, needs)

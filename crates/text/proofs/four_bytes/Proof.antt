@@ -1,22 +1,18 @@
+-- `four_bytes` is the definition's `four-bytes`, test by test.
 use borrow.Author.Needs.{needs}
 use Rattle.definition.specs.Utf8.{four-bytes}
 use Rattle.lemmas.proofs.Tests.{tests}
 use Rattle.text.proofs.four_bytes.Statement.{statement}
 use Rattle.text.proofs.four_bytes.Tie as tie
-use Rattle.text.proofs.four_bytes.Reads as reads
-use Rattle.text.proofs.four_bytes.Lts as lts
 
--- src/lib.rt:85:9
 returns : tie.Need-returns
 unfolding four-bytes
 returns c = search (tests, needs)
 
--- src/lib.rt:88:9
 returns-2 : tie.Need-returns-2
 unfolding four-bytes
 returns-2 c = search (tests, needs)
 
--- src/lib.rt:81:1
 returns-3 : tie.Need-returns-3
 unfolding four-bytes
 returns-3 c = search (tests, needs)

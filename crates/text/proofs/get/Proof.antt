@@ -1,39 +1,30 @@
+-- `get` is the definition's `get`: both see nothing but what stands at the offset.
 use borrow.Author.Needs.{needs}
 use mathlib.Core.Path.{sym, _∙_}
 use Rattle.text.proofs.Reading.{get-of}
 use Rattle.text.proofs.get.Statement.{statement}
 use Rattle.text.proofs.get.Tie as tie
-use Rattle.text.proofs.get.Reads as reads
-use Rattle.text.proofs.get.Lts as lts
-use Rattle.text.proofs.sequence_at.Reads as sequence-at-reads
 
--- src/lib.rt:143:11
 sequence-at-requires : tie.Need-sequence-at-requires
 sequence-at-requires c κs = search needs
 
--- src/lib.rt:144:24
 enum-known-c : tie.Need-enum-known-c
 enum-known-c c = search needs
 
--- src/lib.rt:145:26
 enum-told : tie.Need-enum-told
 enum-told c = search needs
 
--- src/lib.rt:146:26
 enum-told-2 : tie.Need-enum-told-2
 enum-told-2 c = search needs
 
--- src/lib.rt:140:1
 returns : tie.Need-returns
 returns c =
     let d = c .before .before .before in
     sym (get-of _ _ (sym (d .sequence-at .ensures) ∙ c .before .c .given .1))
 
--- src/lib.rt:140:1
 returns-2 : tie.Need-returns-2
 returns-2 c = sym (get-of _ _ (sym (c .before .before .sequence-at .ensures) ∙ c .enum-told .given .1))
 
--- src/lib.rt:140:1
 returns-3 : tie.Need-returns-3
 returns-3 c = sym (get-of _ _ (sym (c .before .before .sequence-at .ensures) ∙ c .enum-told2 .given .1))
 

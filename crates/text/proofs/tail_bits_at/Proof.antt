@@ -1,3 +1,4 @@
+-- `tail_bits_at` is the definition's `tail-bits` of the byte, test by test; past the end that byte is 0.
 use borrow.Author.Needs.{needs}
 use mathlib.Core.Path.{sym, ap}
 use lib.ListN.{List·getD-eq-default}
@@ -6,33 +7,25 @@ use Rattle.definition.specs.Utf8.{tail-bits}
 use Rattle.lemmas.proofs.Tests.{tests}
 use Rattle.text.proofs.tail_bits_at.Statement.{statement}
 use Rattle.text.proofs.tail_bits_at.Tie as tie
-use Rattle.text.proofs.tail_bits_at.Reads as reads
-use Rattle.text.proofs.tail_bits_at.Lts as lts
 
--- src/lib.rt:21:9
 returns : tie.Need-returns
 unfolding tail-bits
 returns c = sym (ap tail-bits (List·getD-eq-default (now (c .before .args .text)) 0 (c .if1 .taken)))
 
--- src/lib.rt:23:16
 shared-slice-read-byte : tie.Need-shared-slice-read-byte
 shared-slice-read-byte c = search needs
 
--- src/lib.rt:25:9
 returns-2 : tie.Need-returns-2
 unfolding tail-bits
 returns-2 c = search (tests, needs)
 
--- src/lib.rt:28:16
 cast-result : tie.Need-cast-result
 cast-result c = search needs
 
--- src/lib.rt:28:9
 returns-3 : tie.Need-returns-3
 unfolding tail-bits
 returns-3 c = search (tests, needs)
 
--- src/lib.rt:17:1
 returns-4 : tie.Need-returns-4
 unfolding tail-bits
 returns-4 c = search (tests, needs)

@@ -1,43 +1,33 @@
+-- `three` is the definition's `three`, test by test.
 use borrow.Author.Needs.{needs}
 use Rattle.definition.specs.Utf8.{three}
 use Rattle.lemmas.proofs.Tests.{tests}
 use Rattle.text.proofs.three.Statement.{statement}
 use Rattle.text.proofs.three.Tie as tie
-use Rattle.text.proofs.three.Reads as reads
-use Rattle.text.proofs.three.Lts as lts
-use Rattle.text.proofs.three_bytes.Reads as three-bytes-reads
 
--- src/lib.rt:72:9
 returns : tie.Need-returns
 unfolding three
 returns c = search (tests, needs)
 
--- src/lib.rt:75:9
 returns-2 : tie.Need-returns-2
 unfolding three
 returns-2 c = search (tests, needs)
 
--- src/lib.rt:77:17
 mul-three-bytes : tie.Need-mul-three-bytes
 mul-three-bytes c = search needs
 
--- src/lib.rt:77:28
 mul-three-bytes-2 : tie.Need-mul-three-bytes-2
 mul-three-bytes-2 c = search needs
 
--- src/lib.rt:77:17
 add-three-bytes : tie.Need-add-three-bytes
 add-three-bytes c = search needs
 
--- src/lib.rt:77:17
 add-three-bytes-2 : tie.Need-add-three-bytes-2
 add-three-bytes-2 c = search needs
 
--- src/lib.rt:77:5
 three-bytes-requires : tie.Need-three-bytes-requires
 three-bytes-requires c κs = search needs
 
--- src/lib.rt:67:1
 returns-3 : tie.Need-returns-3
 unfolding three
 returns-3 c = search (tests, needs)

@@ -1,27 +1,22 @@
+-- `three_bytes` is the definition's `three-bytes`, test by test.
 use borrow.Author.Needs.{needs}
 use Rattle.definition.specs.Utf8.{three-bytes}
 use Rattle.lemmas.proofs.Tests.{tests}
 use Rattle.text.proofs.three_bytes.Statement.{statement}
 use Rattle.text.proofs.three_bytes.Tie as tie
-use Rattle.text.proofs.three_bytes.Reads as reads
-use Rattle.text.proofs.three_bytes.Lts as lts
 
--- src/lib.rt:55:9
 returns : tie.Need-returns
 unfolding three-bytes
 returns c = search (tests, needs)
 
--- src/lib.rt:58:9
 returns-2 : tie.Need-returns-2
 unfolding three-bytes
 returns-2 c = search (tests, needs)
 
--- src/lib.rt:61:9
 returns-3 : tie.Need-returns-3
 unfolding three-bytes
 returns-3 c = search (tests, needs)
 
--- src/lib.rt:51:1
 returns-4 : tie.Need-returns-4
 unfolding three-bytes
 returns-4 c = search (tests, needs)

@@ -1,25 +1,20 @@
+-- `two` is the definition's `two`, test by test.
 use borrow.Author.Needs.{needs}
 use Rattle.definition.specs.Utf8.{two}
 use Rattle.lemmas.proofs.Tests.{tests}
 use Rattle.text.proofs.two.Statement.{statement}
 use Rattle.text.proofs.two.Tie as tie
-use Rattle.text.proofs.two.Reads as reads
-use Rattle.text.proofs.two.Lts as lts
 
--- src/lib.rt:45:31
 mul-t4 : tie.Need-mul-t4
 mul-t4 c = search needs
 
--- src/lib.rt:45:31
 add-t5 : tie.Need-add-t5
 add-t5 c = search needs
 
--- src/lib.rt:45:9
 returns : tie.Need-returns
 unfolding two
 returns c = search (tests, needs)
 
--- src/lib.rt:40:1
 returns-2 : tie.Need-returns-2
 unfolding two
 returns-2 c = search (tests, needs)
