@@ -5,10 +5,12 @@
 // Assumed: what `libc` declares of `write`.
 use libc::STDOUT_FILENO;
 
+// A byte as the number that `io` writes.
 fn wide(byte: u8) -> u64 {
     byte as u64
 }
 
+// The bytes in hexadecimal, with a space after each.
 fn print_bytes(bytes: &[u8]) {
     let mut i = 0;
     while i < bytes.len() {

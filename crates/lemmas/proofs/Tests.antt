@@ -1,4 +1,5 @@
--- A choice by a test: the test's outcome from what is known of the numbers, and a choice by cases. Rests on the tests' own laws, `borrow.Author.Tests`.
+-- A choice by a test: the test's outcome from what is known of the numbers, and a choice by cases. Rests on the tests' own laws,
+-- `borrow.Author.Tests`.
 use Prim.Native.Nat.{ℕ, _≤_, _<_}
 use mathlib.Core.Path.{_≡_, refl}
 use mathlib.Core.Bool.{Bool, true, false}

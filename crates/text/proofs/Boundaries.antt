@@ -28,10 +28,11 @@ pub boundary-start : (s : Bytes) → Boundary s 0
 unfolding encode-all
 boundary-start s = record { within = zero-le; before = record { chars = []; scalars = tt; bytes = refl } }
 
--- Legal bytes have one at their end, and no others have.
+-- Legal bytes have one at their end.
 pub boundary-end : {s : Bytes} → Legal s → Boundary s (length s)
 boundary-end {s} l = record { within = omega arith; before = record { chars = l .chars; scalars = l .scalars; bytes = take-length s ∙ l .bytes } }
 
+-- Bytes that have one at their end are legal.
 pub legal-whole : {s : Bytes} → Boundary s (length s) → Legal s
 legal-whole {s} b = record { chars = b .before .chars; scalars = b .before .scalars; bytes = sym (take-length s) ∙ b .before .bytes }
 
@@ -72,7 +73,9 @@ between-legal {s} {i} {j} b d h =
 -- At a boundary with another after it stands a character, and it ends at that other or before it.
 pub char-before : {s : Bytes} {i j : ℕ} → Boundary s i → Boundary s j → i < j → CharTo s i j
 unfolding encode-all
-char-before {s} {i} {j} b d h = go (between-legal b d (omega arith) .chars) (between-legal b d (omega arith) .scalars) (between-legal b d (omega arith) .bytes)
+char-before {s} {i} {j} b d h =
+    let l = between-legal b d (omega arith) in
+    go (l .chars) (l .scalars) (l .bytes)
   where
     n : length (slice i j s) ≡ j - i
     n = length-slice i j s (d .within)
@@ -102,11 +105,12 @@ continues : (n : ℕ) → n < 64 → is-continuation (0x80 + n) ≡ true
 unfolding is-continuation
 continues n h = simp (le-leb 0x80 (0x80 + n) (omega arith), le-leb (0x80 + n) 0xBF (omega arith))
 
--- Any other doesn't.
+-- A lower one doesn't.
 starts-low : (b : ℕ) → b < 0x80 → is-continuation b ≡ false
 unfolding is-continuation
 starts-low b h = simp (lt-leb 0x80 b h)
 
+-- Nor does a higher one.
 starts-high : (b : ℕ) → 0xBF < b → is-continuation b ≡ false
 unfolding is-continuation
 starts-high b h = simp (le-leb 0x80 b (omega arith), lt-leb b 0xBF h)
@@ -134,17 +138,18 @@ encode-starts c =
     z : is-continuation (0x80 + c % 64) ≡ true
     z = continues (c % 64) (omega arith)
 
--- So the first byte continues none.
+-- So the first byte of an encoding continues none.
 starts-first : (l : Bytes) → Starts l → is-continuation (getD l 0 0) ≡ false
 starts-first [] h = absurd h
 starts-first (b ∷ l) h = h .0
 
--- Each later byte does.
+-- Where each byte continues one, so does the one at k.
 continue-at : (l : Bytes) (k : ℕ) → Continue l → k < length l → is-continuation (getD l k 0) ≡ true
 continue-at [] k h n = absurd (omega arith)
 continue-at (b ∷ l) zero h n = h .0
 continue-at (b ∷ l) (suc k) h n = continue-at l k (h .1) (omega arith)
 
+-- So each later byte of an encoding does.
 starts-later : (l : Bytes) (k : ℕ) → Starts l → suc k < length l → is-continuation (getD l (suc k) 0) ≡ true
 starts-later [] k h n = absurd h
 starts-later (b ∷ l) k h n = continue-at l k (h .1) (omega arith)

@@ -72,12 +72,13 @@ unfolding three-bytes
 three-bytes-of c h (inl p) = simp tests
 three-bytes-of c h (inr p) = let p₁ : 0xD800 ≤ c = omega arith in simp tests
 
--- Each shape, with any bytes behind it, is read as its code point and its width.
 module _ (c : ℕ) (rest : Bytes) where
+  -- One byte, with any bytes behind it, is read as its code point and its width.
   read-1 : c < 0x80 → sequence-at (c ∷ rest) 0 ≡ Char c 1
   unfolding sequence
   read-1 h = simp (tests, read-first)
 
+  -- Two bytes are.
   read-2 : 0x80 ≤ c → c < 0x800 → sequence-at ((0xC0 + c / 64) ∷ (0x80 + c % 64) ∷ rest) 0 ≡ Char c 2
   unfolding sequence two
   read-2 h k =
@@ -87,6 +88,7 @@ module _ (c : ℕ) (rest : Bytes) where
       let y : c % 64 < 64 = omega arith in
       simp (tests, read-first, tail-bits-of) (ap (λ (n : ℕ). Char n 2) (omega arith))
 
+  -- Three bytes are, of no surrogate.
   read-3 : 0x800 ≤ c → c < 0x10000 → (c < 0xD800) ⊎ (0xE000 ≤ c)
       → sequence-at ((0xE0 + c / 4096) ∷ (0x80 + c / 64 % 64) ∷ (0x80 + c % 64) ∷ rest) 0 ≡ Char c 3
   unfolding sequence three
@@ -100,6 +102,7 @@ module _ (c : ℕ) (rest : Bytes) where
       let e : (0xE0 + c / 4096 - 0xE0) * 4096 + c / 64 % 64 * 64 + c % 64 ≡ c = omega arith in
       simp (tests, read-first, tail-bits-of, e) (three-bytes-of c h p)
 
+  -- Four bytes are, up to 10FFFF.
   read-4 : 0x10000 ≤ c → c ≤ 0x10FFFF
       → sequence-at ((0xF0 + c / 262144) ∷ (0x80 + c / 4096 % 64) ∷ (0x80 + c / 64 % 64) ∷ (0x80 + c % 64) ∷ rest) 0 ≡ Char c 4
   unfolding sequence four four-bytes

@@ -17,11 +17,11 @@ use Rattle.definition.specs.declared.Sequence.the-variants.{Char, Bad, End}
 use Rattle.definition.specs.declared.Letter.the-variants.{Code, Past}
 use Rattle.definition.specs.declared.Match.the-variants.{To, Nothing}
 use Rattle.lemmas.proofs.Tests.{by-order}
-use Rattle.text.specs.Chars.{CharAt, CharTo, Rest, chars-from, first-letter, take-while}
+use Rattle.text.specs.Chars.{CharAt, CharTo, Rest, Run, Next, chars-from, first-letter, take-while}
 use Rattle.text.proofs.Reading.{read-end, get-of, next-of, No-char, with-none}
 use Rattle.text.proofs.Character.{read-encode, end-read, char-read, read-char, char-within}
 use Rattle.text.proofs.Runs.{by-char, chars-on, chars-none, chars-are, encode-injective}
-use Rattle.text.proofs.Star.{by-star, star-from, star-within, star-ends, star-is}
+use Rattle.text.proofs.Star.{by-star, star-from, star-within, star-ends, star-is, star-run, star-greatest}
 use Rattle.text.proofs.Boundaries.{boundary-start, boundary-end, legal-whole, boundary-next, rest-is, between-legal, char-before, boundary-character, character-boundary}
 
 -- ---- decoding and encoding
@@ -63,17 +63,28 @@ get-first s i =
     (λ c w e. get-of s i e ∙ ap first-letter (sym (chars-on s i c w e)))
     (λ h. get-of s i refl ∙ with-none (sequence-at s i) i (λ c j. Code c) Past h ∙ ap first-letter (sym (chars-none s i h)))
 
--- `next` goes to the offset whose characters are the others.
-pub next-others : (s : Bytes) (i j : ℕ) → next s i ≡ To j → (c : ℕ) × (get s i ≡ Code c) × (chars-from s i ≡ c ∷ chars-from s j)
+-- Where a character stands, `get` gives it, and `next` goes past it.
+pub char-reads : {s : Bytes} {i c w : ℕ} → CharAt s i c w → (get s i ≡ Code c) × (next s i ≡ To (i + w))
+char-reads {s} {i} a = (get-of s i (read-char a), next-of s i (read-char a))
+
+-- `next` goes nowhere else, and the characters there are those after the first.
+pub next-others : (s : Bytes) (i j : ℕ) → next s i ≡ To j → Next s i j
 next-others s i j n = by-char s i some none
   where
-    some : (c w : ℕ) → sequence-at s i ≡ Char c w → (c : ℕ) × (get s i ≡ Code c) × (chars-from s i ≡ c ∷ chars-from s j)
+    some : (c w : ℕ) → sequence-at s i ≡ Char c w → Next s i j
     some c w e =
         let q : To (i + w) ≡ To j = sym (next-of s i e) ∙ n in
         let same : i + w ≡ j = cc in
-        (c, get-of s i e, chars-on s i c w e ∙ ap (λ (k : ℕ). c ∷ chars-from s k) same)
+        record {
+          code = c;
+          width = w;
+          stands = char-read e;
+          ends = sym same;
+          read = get-of s i e;
+          others = chars-on s i c w e ∙ ap (λ (k : ℕ). c ∷ chars-from s k) same;
+        }
 
-    none : No-char (sequence-at s i) → (c : ℕ) × (get s i ≡ Code c) × (chars-from s i ≡ c ∷ chars-from s j)
+    none : No-char (sequence-at s i) → Next s i j
     none h =
         let q : Nothing ≡ To j = sym (next-of s i refl ∙ with-none (sequence-at s i) i (λ c k. To k) Nothing h) ∙ n in
         let z : _≡_ {A = ℕ} 0 1 = cc in
@@ -132,6 +143,14 @@ boundary-by-byte i l = (boundary-character l, character-boundary i l)
 -- The run from i is the longest prefix of the characters from i on that passes, at any offset of any bytes.
 pub star-prefix : (f : ℕ → Bool) (s : Bytes) (i : ℕ) → star f s i ≡ i + length (encode-all (take-while f (chars-from s i)))
 star-prefix = star-is
+
+-- Characters that pass stand from i to its end.
+pub star-passes : (f : ℕ → Bool) (s : Bytes) (i : ℕ) → Run f s i (star f s i)
+star-passes = star-run
+
+-- They stand to no later end.
+pub star-is-greatest : (f : ℕ → Bool) (s : Bytes) {i e : ℕ} → Run f s i e → e ≤ star f s i
+star-is-greatest f s r = star-greatest f s r
 
 -- No character that passes stands at its end.
 pub star-longest : (f : ℕ → Bool) (s : Bytes) (i c w : ℕ) → sequence-at s (star f s i) ≡ Char c w → f c ≡ false

@@ -48,19 +48,22 @@ read-shift s i = by-order i (length s) inside past
 
 -- ---- the byte, the character and the offset after it
 
+-- Within the text there is a byte.
 pub byte-within : (s : Bytes) (i : ℕ) → i < length s → byte s i ≡ Byte (getD s i 0)
 unfolding byte
 byte-within s i h = simp (byte, tests)
 
+-- Past the end there is none.
 pub byte-end : (s : Bytes) (i : ℕ) → length s ≤ i → byte s i ≡ No-byte
 unfolding byte
 byte-end s i h = simp (byte, tests)
 
--- `get` and `next` see nothing but what stands at the offset.
+-- `get` sees nothing but what stands at the offset.
 pub get-of : (s : Bytes) (i : ℕ) {t : Sequence} → sequence-at s i ≡ t → get s i ≡ with-char t i (λ c j. Code c) Past
 unfolding get
 get-of s i e = ap (λ (t : Sequence). with-char t i (λ c j. Code c) Past) e
 
+-- `next` sees nothing else either.
 pub next-of : (s : Bytes) (i : ℕ) {t : Sequence} → sequence-at s i ≡ t → next s i ≡ with-char t i (λ c j. To j) Nothing
 unfolding next
 next-of s i e = ap (λ (t : Sequence). with-char t i (λ c j. To j) Nothing) e

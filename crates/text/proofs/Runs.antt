@@ -107,14 +107,10 @@ pub encode-one : (c : ℕ) → encode-all (c ∷ []) ≡ encode c
 unfolding encode-all
 encode-one c = append-nil (encode c)
 
--- Scalar values in a row are so each by each.
+-- Scalar values and others behind them are scalar values.
 pub scalars-append : (xs ys : List ℕ) → Scalars xs → Scalars ys → Scalars (xs ++ ys)
 scalars-append [] ys p q = q
 scalars-append (x ∷ xs) ys p q = (p .0, scalars-append xs ys (p .1) q)
-
-pub scalars-right : (xs ys : List ℕ) → Scalars (xs ++ ys) → Scalars ys
-scalars-right [] ys p = p
-scalars-right (x ∷ xs) ys p = scalars-right xs ys (p .1)
 
 -- Two lists of scalar values with the same encoding are the same.
 pub encode-injective : (cs ds : List ℕ) → Scalars cs → Scalars ds → encode-all cs ≡ encode-all ds → cs ≡ ds

@@ -2,18 +2,19 @@
 use Prim.Native.Nat.{ℕ, zero, suc, _+_, _≤_}
 use mathlib.Core.Path.{_≡_, refl, sym, ap, _∙_}
 use mathlib.Core.Bool.{Bool, true, false}
-use mathlib.Core.List.{List, [], _∷_}
+use mathlib.Core.List.{List, [], _∷_, _++_, append-assoc}
+use native.Mathlib.Nat.{add-zero}
 use native.Mathlib.Omega.{arith}
-use lib.ListN.{length, length-append}
+use lib.ListN.{length, drop, length-append}
 use Rattle.definition.specs.Basics.{Bytes, Turn, again, done, loop}
-use Rattle.definition.specs.Utf8.{encode, encode-all, sequence-at}
+use Rattle.definition.specs.Utf8.{encode, encode-all, Scalars, sequence-at}
 use Rattle.definition.specs.Text.{star-turn, star}
 use Rattle.definition.specs.declared.Sequence.the-variants.{Char}
 use Rattle.lemmas.proofs.Tests.{by-outcome}
-use Rattle.text.specs.Chars.{chars-from, take-while}
+use Rattle.text.specs.Chars.{Pass, Run, chars-from, take-while}
 use Rattle.text.proofs.Reading.{No-char, with-none}
-use Rattle.text.proofs.Character.{char-read, char-within}
-use Rattle.text.proofs.Runs.{by-turns, by-chars, chars-on, chars-none}
+use Rattle.text.proofs.Character.{char-read, char-within, read-at}
+use Rattle.text.proofs.Runs.{by-turns, by-chars, chars-on, chars-none, drop-next}
 
 -- A turn that calls again takes one turn of the fuel.
 loop-goes : {A R : Type 0} (turn : A → Turn A R) (out : A → R) (n : ℕ) {a b : A} → turn a ≡ again b → loop turn out (suc n) a ≡ loop turn out n b
@@ -147,3 +148,38 @@ module _ (f : ℕ → Bool) (s : Bytes) where
           let rest = take-while f (chars-from s (i + w)) in
           let n = size i (c ∷ rest) (ap (take-while f) (chars-on s i c w q) ∙ kept c (chars-from s (i + w)) t) in
           omega (arith, n, length-append (encode c) (encode-all rest), char-read q .width)
+
+  -- ---- the greatest end of a run
+
+  -- Characters that pass stand from i to the end of the run.
+  pub star-run : (i : ℕ) → Run f s i (star f s i)
+  unfolding encode-all
+  star-run = by-star (Run f s) (λ i h. empty i) (λ i c w q t. empty i) on
+    where
+      empty : (i : ℕ) → Run f s i i
+      empty i = record { run = []; scalars = tt; pass = tt; bytes = refl; ends = sym (add-zero i) }
+
+      on : (i c w e : ℕ) → sequence-at s i ≡ Char c w → f c ≡ true → Run f s (i + w) e → Run f s i e
+      on i c w e q t r =
+          let a = char-read q in
+          record {
+            run = c ∷ r .run;
+            scalars = (a .scalar, r .scalars);
+            pass = (t, r .pass);
+            bytes = a .bytes ∙ ap (λ (l : Bytes). encode c ++ l) (r .bytes) ∙ sym (append-assoc (encode c) (encode-all (r .run)) (drop e s));
+            ends = omega (arith, r .ends, a .width, length-append (encode c) (encode-all (r .run)));
+          }
+
+  -- Characters that pass stand no further than to its end.
+  reach : (cs : List ℕ) (i : ℕ) (rest : Bytes) → Scalars cs → Pass f cs → drop i s ≡ encode-all cs ++ rest → i + length (encode-all cs) ≤ star f s i
+  unfolding encode-all
+  reach [] i rest sc p e = omega (arith, star-from i)
+  reach (c ∷ cs) i rest sc p e =
+      let q : drop i s ≡ encode c ++ (encode-all cs ++ rest) = e ∙ append-assoc (encode c) (encode-all cs) rest in
+      let w = length (encode c) in
+      let ih = reach cs (i + w) rest (sc .1) (p .1) (drop-next s i c (encode-all cs ++ rest) q) in
+      omega (arith, ih, star-on i c w (read-at s i c (encode-all cs ++ rest) (sc .0) q) (p .0), length-append (encode c) (encode-all cs))
+
+  -- So its end is the greatest to which such characters stand.
+  pub star-greatest : {i e : ℕ} → Run f s i e → e ≤ star f s i
+  star-greatest {i} {e} r = omega (arith, r .ends, reach (r .run) i (drop e s) (r .scalars) (r .pass) (r .bytes))
