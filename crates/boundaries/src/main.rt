@@ -32,9 +32,9 @@ fn show(bytes: &[u8]) {
     io::write_all(STDOUT_FILENO, b"\n");
 }
 
-fn main() {
+// Each end of each range of the table, and what stands beside it.
+fn ranges() {
     show(b"");
-    // each end of each range of the table, and the bytes beside it
     show(b"\xC0\x80");
     show(b"\xC1\xBF");
     show(b"\xC2\x80");
@@ -56,7 +56,10 @@ fn main() {
     show(b"\xFF");
     show(b"\x80");
     show(b"\xBF");
-    // the legal ones of more than one byte, cut short
+}
+
+// The legal ones of more than one byte, cut short.
+fn cut_short() {
     show(b"\xC2");
     show(b"\xDF");
     show(b"\xE0\xA0");
@@ -73,7 +76,10 @@ fn main() {
     show(b"\xF4\x8F");
     show(b"\xF0");
     show(b"\xF4");
-    // some behind legal bytes
+}
+
+// Some behind legal bytes.
+fn behind_legal() {
     show(b"a\xC0\x80");
     show(b"\xC3\xA9\xE0\x9F\xBF");
     show(b"a\xC3\xA9\xED\xA0\x80");
@@ -85,4 +91,10 @@ fn main() {
     show(b"\xC3\xA9\xC2");
     show(b"a\xC3\xA9\xF0\x90\x80\x80a");
     show(b"\xED\x9F\xBFaa\xFF");
+}
+
+fn main() {
+    ranges();
+    cut_short();
+    behind_legal();
 }
