@@ -1,0 +1,2 @@
+-- `Chars`: the characters that are read from an offset on.
+pub mod Chars
