@@ -1,10 +1,11 @@
--- What the column functions rest on: what a byte counts, and when a cached column is right.
-use Prim.Native.Nat.{ℕ, _≤_}
+-- What the column functions rest on: what a byte counts, when a cached column is right, and the weights of characters.
+use Prim.Native.Nat.{ℕ, _+_, _≤_}
 use mathlib.Core.Path.{_≡_}
 use mathlib.Core.Bool.{true, false}
+use mathlib.Core.List.{List, [], _∷_}
 use lib.ListN.{length}
 use Rattle.definition.specs.Basics.{Bytes}
-use Rattle.definition.specs.Position.{is-continuation, col-of, pos-of}
+use Rattle.definition.specs.Position.{Weight, is-continuation, col-of, pos-of}
 use Rattle.definition.specs.declared.State.{State}
 use Rattle.positions.specs.declared.Cache.{Cache}
 use Rattle.positions.specs.declared.Located.{Located}
@@ -32,3 +33,8 @@ column-at s st i = record { off = i; col = col-of s st i }
 
 abbrev pub located : Bytes → State → ℕ → Located
 located s st i = record { pos = pos-of s st i; known = column-at s st i }
+
+-- the weights of some characters together
+unfoldable pub sum-of : Weight → List ℕ → ℕ
+sum-of w [] = 0
+sum-of w (c ∷ cs) = w c + sum-of w cs
