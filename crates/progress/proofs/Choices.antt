@@ -17,8 +17,8 @@ use Rattle.definition.specs.Select.{none-at, keep, found, try-words, try-all, o
 use Rattle.definition.specs.declared.Choice.{Choice}
 use Rattle.definition.specs.declared.Match.{Match}
 use Rattle.definition.specs.declared.Match.the-variants.{To, Nothing}
-use Rattle.progress.proofs.Cases.{by-test, by-if, both}
-use Rattle.progress.proofs.Lists.{Each, none-left, _⨾_}
+use Rattle.lemmas.proofs.Cases.{by-test, by-if, both}
+use Rattle.lemmas.proofs.Each.{Each, none-left, _⨾_}
 use Rattle.progress.proofs.Walks.{Clean, clean-walk, Onward, onward-walk, onward-onward, char-onward-one, star-walks, Passes}
 use Rattle.progress.proofs.Ends.{Ends, ends-to, ends-map, ends-then, ends-only, ends-later}
 use Rattle.progress.proofs.Matches.{

@@ -16,8 +16,8 @@ use Rattle.definition.specs.Comment.{run-end, after, comment-stop, terminate, c
 use Rattle.definition.specs.declared.State.{State}
 use Rattle.definition.specs.declared.Sequence.{Sequence}
 use Rattle.definition.specs.declared.Sequence.the-variants.{Char, Bad, End}
-use Rattle.progress.proofs.Loops.{says, Leads, Falls, Any, loop-same, loop-unroll}
-use Rattle.progress.proofs.Cases.{by-test, by-lt, by-le, by-match, both}
+use Rattle.lemmas.proofs.Loops.{says, Leads, Falls, Any, loop-same, loop-unroll}
+use Rattle.lemmas.proofs.Cases.{by-test, by-lt, by-le, by-match, both}
 use Rattle.progress.proofs.Walks.{rest, Walk, here, Onward, walk-past, char-onward, star-walks, Clean, clean-walk, clean-char}
 use Rattle.progress.proofs.Matches.{small-is, byte-is-onward, byte-more, newline-ends}
 use Rattle.progress.proofs.Moves.{

@@ -13,8 +13,8 @@ use Rattle.definition.specs.Text.{byte-is}
 use Rattle.definition.specs.Chars.{is-newline-char}
 use Rattle.definition.specs.Matchers.{no-comment-turn, no-comment}
 use Rattle.definition.specs.declared.Sequence.the-variants.{Char}
-use Rattle.progress.proofs.Loops.{Leads, loop-keeps}
-use Rattle.progress.proofs.Cases.{by-test, by-le, both}
+use Rattle.lemmas.proofs.Loops.{Leads, loop-keeps}
+use Rattle.lemmas.proofs.Cases.{by-test, by-le, both}
 use Rattle.progress.proofs.Characters.{ascii-at}
 use Rattle.progress.proofs.Walks.{Walk, Onward, walk-past, walk-to, byte-passes}
 

@@ -9,8 +9,8 @@ use Rattle.definition.specs.Basics.{if_then_else_}
 use Rattle.definition.specs.Matchers.{_then_, later, max-list, only}
 use Rattle.definition.specs.declared.Match.{Match}
 use Rattle.definition.specs.declared.Match.the-variants.{To, Nothing}
-use Rattle.progress.proofs.Cases.{by-if}
-use Rattle.progress.proofs.Lists.{Each, none-left, _⨾_}
+use Rattle.lemmas.proofs.Cases.{by-if}
+use Rattle.lemmas.proofs.Each.{Each, none-left, _⨾_}
 
 -- if a matcher finds an end, then P holds of it
 pub record Ends (P : ℕ → Type 0) (m : Match) : Type 0 where

@@ -13,9 +13,8 @@
 --   run           `run-items`: from a state that has a level open if it is in a comment (`Opened`)
 -- What `comment`, `blob` and `run-items` ask holds at the start of every run that isn't refused (`run-ready`), at every state
 -- that it comes to (`reached-ready`), and behind every choice at such a state (`choice-clean`). Rests on the laws that it passes on, and assumes nothing.
+pub use Rattle.text.proofs.Star.{star-enough, star-unroll}
 pub use Rattle.progress.proofs.Scans.{
-  star-enough,
-  star-unroll,
   backtick-from,
   backtick-enough,
   backtick-unroll,

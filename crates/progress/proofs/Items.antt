@@ -20,8 +20,8 @@ use Rattle.definition.specs.Token.{step}
 use Rattle.definition.specs.Run.{Outcome, Writing, stopped, run-turn, most-items, run-items, text-too-long, name-too-long, refusal}
 use Rattle.definition.specs.Reading.{Reached, given, skipped, gave, carried}
 use Rattle.definition.specs.declared.State.{State}
-use Rattle.progress.proofs.Loops.{says, Leads, Falls, Any, loop-same, loop-unroll-by}
-use Rattle.progress.proofs.Cases.{by-test, by-lt, by-if, both, both-true}
+use Rattle.lemmas.proofs.Loops.{says, Leads, Falls, Any, loop-same, loop-unroll-by}
+use Rattle.lemmas.proofs.Cases.{by-test, by-lt, by-if, both, both-true}
 use Rattle.progress.proofs.Walks.{Walk, here, walk-to, walk-within, star-walks, Clean, clean-walk}
 use Rattle.progress.proofs.Moves.{awake, awake-small, left, Opened, reads-opened, Gives, Moves}
 use Rattle.progress.proofs.Comments.{comment-gives}

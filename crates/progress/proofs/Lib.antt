@@ -1,6 +1,3 @@
-pub mod Loops
-pub mod Cases
-pub mod Lists
 pub mod Characters
 pub mod Walks
 pub mod Ends

@@ -25,8 +25,8 @@ use Rattle.definition.specs.declared.State.{State}
 use Rattle.definition.specs.declared.Sequence.the-variants.{Char}
 use Rattle.definition.specs.declared.Match.{Match}
 use Rattle.definition.specs.declared.Match.the-variants.{To, Nothing}
-use Rattle.progress.proofs.Loops.{says, Leads, Falls, Any, loop-same, loop-unroll}
-use Rattle.progress.proofs.Cases.{by-test, by-lt, by-le, by-if-lt, by-match, either}
+use Rattle.lemmas.proofs.Loops.{says, Leads, Falls, Any, loop-same, loop-unroll}
+use Rattle.lemmas.proofs.Cases.{by-test, by-lt, by-le, by-if-lt, by-match, either}
 use Rattle.progress.proofs.Characters.{char-at}
 use Rattle.progress.proofs.Walks.{
   rest,

@@ -44,8 +44,8 @@ use Rattle.definition.specs.declared.Sequence.{Sequence}
 use Rattle.definition.specs.declared.Sequence.the-variants.{Char, Bad, End}
 use Rattle.definition.specs.declared.Match.{Match}
 use Rattle.definition.specs.declared.Match.the-variants.{To, Nothing}
-use Rattle.progress.proofs.Cases.{by-test, by-if, by-match, both, either}
-use Rattle.progress.proofs.Loops.{Leads, leads-map, loop-keeps}
+use Rattle.lemmas.proofs.Cases.{by-test, by-if, by-match, both, either}
+use Rattle.lemmas.proofs.Loops.{Leads, leads-map, loop-keeps}
 use Rattle.progress.proofs.Walks.{
   Walk,
   here,
@@ -60,7 +60,7 @@ use Rattle.progress.proofs.Walks.{
   star-walks,
 }
 use Rattle.progress.proofs.Ends.{Ends, ends-nothing, ends-to, ends-map, ends-then, ends-only, ends-if, ends-later, ends-max}
-use Rattle.progress.proofs.Lists.{Each, none-left, _⨾_, each-map}
+use Rattle.lemmas.proofs.Each.{Each, none-left, _⨾_, each-map}
 
 -- ---- tests that only ASCII passes
 

@@ -9,7 +9,7 @@ use lib.ListN.{length}
 use Rattle.definition.specs.Basics.{Bytes, Turn, loop}
 use Rattle.definition.specs.Item.{Step}
 use Rattle.definition.specs.declared.State.{State}
-use Rattle.progress.proofs.Loops.{Leads, leads-map, Falls, Any, loop-keeps}
+use Rattle.lemmas.proofs.Loops.{Leads, leads-map, Falls, Any, loop-keeps}
 use Rattle.progress.proofs.Walks.{rest, Walk, Onward, walk-forward, walk-within, Clean, clean-walk}
 
 -- the bytes and the levels of a comment that are left

@@ -15,33 +15,13 @@ use Rattle.definition.specs.declared.Sequence.{Sequence}
 use Rattle.definition.specs.declared.Sequence.the-variants.{Char, Bad, End}
 use Rattle.definition.specs.declared.Match.{Match}
 use Rattle.definition.specs.declared.Match.the-variants.{Nothing}
-use Rattle.progress.proofs.Loops.{says, Leads, leads-map, Falls, Any, loop-same, loop-unroll, loop-unroll-by}
-use Rattle.progress.proofs.Cases.{by-test, by-lt, by-le}
-use Rattle.progress.proofs.Characters.{char-at}
+use Rattle.lemmas.proofs.Loops.{says, Leads, leads-map, Falls, Any, loop-same, loop-unroll, loop-unroll-by}
+use Rattle.lemmas.proofs.Cases.{by-test, by-lt, by-le}
+use Rattle.text.proofs.Star.{star-unroll}
 use Rattle.progress.proofs.Walks.{rest, Onward, onward-walk, char-onward, star-walks}
 use Rattle.progress.proofs.Matches.{backtick-leads}
 
 -- ---- `star`
-
--- a turn of `star` moves on by a character
-pub star-falls : (f : ℕ → Bool) (s : Bytes) → Falls (star-turn f s) Any (rest s) Any
-star-falls f s = record { at = λ i _. go i (sequence-at s i) refl }
-  where
-    go : (i : ℕ) (q : Sequence) → sequence-at s i ≡ q
-        → Leads (λ j. Any j × (rest s j < rest s i)) Any (with-char q i (λ c j. elim (f c) [ true ↦ again j | false ↦ done i ]) (done i))
-    go i (Char c w) q = by-test (Leads (λ j. Any j × (rest s j < rest s i)) Any) (f c) (λ _. let a = char-at q in (tt, omega arith)) (λ _. tt)
-    go i Bad q = tt
-    go i End q = tt
-
--- more fuel and another `out` change nothing
-pub star-enough : (f : ℕ → Bool) (s : Bytes) (out : ℕ → ℕ) (n i : ℕ) → rest s i < n → loop (star-turn f s) out n i ≡ star f s i
-unfolding star
-star-enough f s out n i h = loop-same (star-falls f s) out (λ j. j) n (fuel s) i tt h (omega arith)
-
--- `star` is what its first turn says
-pub star-unroll : (f : ℕ → Bool) (s : Bytes) (i : ℕ) → star f s i ≡ says (star-turn f s i) (star f s)
-unfolding star
-star-unroll f s i = loop-unroll (star-falls f s) (λ j. j) (fuel s) i tt (omega arith)
 
 -- a run of a character or more
 pub star-onward : (f : ℕ → Bool) (s : Bytes) (i c w : ℕ) → sequence-at s i ≡ Char c w → f c ≡ true → Onward s i (star f s i)

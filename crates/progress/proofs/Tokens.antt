@@ -49,9 +49,9 @@ use Rattle.definition.specs.Token.{
 }
 use Rattle.definition.specs.declared.Choice.{Choice}
 use Rattle.definition.specs.declared.State.{State}
-use Rattle.progress.proofs.Loops.{says, Leads, Falls, Any, loop-same, loop-unroll}
-use Rattle.progress.proofs.Cases.{by-test, by-lt, by-le}
-use Rattle.progress.proofs.Lists.{Numbered, no-more, _⨟_, numbered-at}
+use Rattle.lemmas.proofs.Loops.{says, Leads, Falls, Any, loop-same, loop-unroll}
+use Rattle.lemmas.proofs.Cases.{by-test, by-lt, by-le}
+use Rattle.lemmas.proofs.Each.{Numbered, no-more, _⨟_, numbered-at}
 use Rattle.progress.proofs.Walks.{rest, Onward, onward-walk, walk-forward, walk-past, star-walks, clean-walk}
 use Rattle.progress.proofs.Cuts.{slash-goes-on, slash-at, no-comment-walks, no-comment-onward, no-comment-slash}
 use Rattle.progress.proofs.Choices.{kw-op-place, Chosen, Fits, select-fits}

@@ -12,8 +12,8 @@ use Rattle.definition.specs.Utf8.{sequence-at}
 use Rattle.definition.specs.Text.{with-char, char-has, byte-has, star-turn, star}
 use Rattle.definition.specs.declared.Sequence.{Sequence}
 use Rattle.definition.specs.declared.Sequence.the-variants.{Char, Bad, End}
-use Rattle.progress.proofs.Loops.{Leads, loop-keeps}
-use Rattle.progress.proofs.Cases.{by-test, by-lt}
+use Rattle.lemmas.proofs.Loops.{Leads, loop-keeps}
+use Rattle.lemmas.proofs.Cases.{by-test, by-lt}
 use Rattle.progress.proofs.Characters.{Tail, char-at, ascii-at}
 
 -- from i one comes to e by whole characters

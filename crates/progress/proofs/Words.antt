@@ -15,7 +15,7 @@ use Rattle.definition.specs.Text.{byte-is}
 use Rattle.definition.specs.Tables.{Entry, cps}
 use Rattle.definition.specs.Matchers.{match-lit}
 use Rattle.definition.specs.declared.Sequence.the-variants.{Char}
-use Rattle.progress.proofs.Cases.{by-test, both, either}
+use Rattle.lemmas.proofs.Cases.{by-test, both, either}
 use Rattle.progress.proofs.Characters.{ascii-at}
 use Rattle.progress.proofs.Walks.{Walk, here, on, Onward, onward-walk, char-onward, byte-passes, Passes}
 use Rattle.progress.proofs.Ends.{Ends, ends-nothing, ends-to, ends-map}

@@ -14,7 +14,7 @@ use Rattle.definition.specs.Utf8.{encode, Scalars, encode-all, Legal, Boundary,
 use Rattle.definition.specs.Position.{is-continuation}
 use Rattle.definition.specs.State.{at-character}
 use Rattle.definition.specs.declared.Sequence.the-variants.{Char}
-use Rattle.lemmas.proofs.Tests.{tests, by-order}
+use Rattle.lemmas.proofs.Cases.{tests, by-order}
 use Rattle.lemmas.proofs.Lists.{slice-then-drop}
 use Rattle.text.specs.Chars.{CharAt, CharTo, Rest, chars-from}
 use Rattle.text.proofs.Reading.{No-char}

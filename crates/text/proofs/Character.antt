@@ -11,7 +11,7 @@ use Rattle.definition.specs.Basics.{Bytes}
 use Rattle.definition.specs.Utf8.{encode, Scalar, tail-bits, two, three, three-bytes, four, four-bytes, sequence, sequence-at}
 use Rattle.definition.specs.declared.Sequence.{Sequence}
 use Rattle.definition.specs.declared.Sequence.the-variants.{Char, Bad, End}
-use Rattle.lemmas.proofs.Tests.{by-lt, tests}
+use Rattle.lemmas.proofs.Cases.{by-if-lt, tests}
 use Rattle.text.proofs.Reading.{read-first, read-end, read-shift}
 use Rattle.text.specs.Chars.{CharAt}
 
@@ -50,7 +50,7 @@ pub by-size : (P : Bytes → Type 0) (c : ℕ)
     → (0x10000 ≤ c → P ((0xF0 + c / 262144) ∷ (0x80 + c / 4096 % 64) ∷ (0x80 + c / 64 % 64) ∷ (0x80 + c % 64) ∷ []))
     → P (encode c)
 unfolding encode
-by-size P c p₁ p₂ p₃ p₄ = by-lt P c 0x80 p₁ (λ h. by-lt P c 0x800 (p₂ h) (λ h. by-lt P c 0x10000 (p₃ h) p₄))
+by-size P c p₁ p₂ p₃ p₄ = by-if-lt P c 0x80 p₁ (λ h. by-if-lt P c 0x800 (p₂ h) (λ h. by-if-lt P c 0x10000 (p₃ h) p₄))
 
 -- An encoding has one to four bytes.
 pub encode-size : (c : ℕ) → (1 ≤ length (encode c)) × (length (encode c) ≤ 4)
@@ -139,7 +139,7 @@ Reads l End = length l ≡ 0
 -- A byte whose bits are six is 80 and those bits.
 tail-byte : (b : ℕ) → tail-bits b < 64 → b ≡ 0x80 + tail-bits b
 unfolding tail-bits
-tail-byte b = by-lt P b 0x80 (λ h k. omega arith) (λ h. by-lt P b 0xC0 (λ j k. omega arith) (λ j k. omega arith))
+tail-byte b = by-if-lt P b 0x80 (λ h k. omega arith) (λ h. by-if-lt P b 0xC0 (λ j k. omega arith) (λ j k. omega arith))
   where
     P : ℕ → Type 0
     P n = n < 64 → b ≡ 0x80 + n
@@ -183,7 +183,7 @@ reads-2 : (b x : ℕ) (l : Bytes) → b ≡ 0xC0 + x → 2 ≤ x → x < 32 → 
 unfolding two tail-bits
 reads-2 b x [] e h k = tt
 reads-2 b x (d ∷ l) e h k =
-    by-lt (Reads (b ∷ d ∷ l)) (tail-bits d) 64
+    by-if-lt (Reads (b ∷ d ∷ l)) (tail-bits d) 64
     (λ y. spelled (b ∷ d ∷ []) l (record { small = omega arith; plain = inl (omega arith) }) (is y) refl)
     (λ _. tt)
   where
@@ -194,9 +194,9 @@ reads-2 b x (d ∷ l) e h k =
 reads-3 : (b x : ℕ) (l : Bytes) → b ≡ 0xE0 + x → x < 16 → Reads (b ∷ l) (three x (tail-bits (getD l 0 0)) (tail-bits (getD l 1 0)))
 unfolding three tail-bits three-bytes
 reads-3 b x [] e k = tt
-reads-3 b x (d ∷ []) e k = by-lt (Reads (b ∷ d ∷ [])) (tail-bits d) 64 (λ _. tt) (λ _. tt)
+reads-3 b x (d ∷ []) e k = by-if-lt (Reads (b ∷ d ∷ [])) (tail-bits d) 64 (λ _. tt) (λ _. tt)
 reads-3 b x (d ∷ f ∷ l) e k =
-    by-lt R (tail-bits d) 64 (λ y. by-lt R (tail-bits f) 64 (code y) (λ _. tt)) (λ _. tt)
+    by-if-lt R (tail-bits d) 64 (λ y. by-if-lt R (tail-bits f) 64 (code y) (λ _. tt)) (λ _. tt)
   where
     R : Sequence → Type 0
     R = Reads (b ∷ d ∷ f ∷ l)
@@ -215,21 +215,21 @@ reads-3 b x (d ∷ f ∷ l) e k =
 
     code : tail-bits d < 64 → tail-bits f < 64 → R (three-bytes C)
     code y z =
-        by-lt R C 0x800 (λ _. tt)
-        (λ h. by-lt R C 0xD800 (λ p. right y z h (inl p)) (λ _. by-lt R C 0xE000 (λ _. tt) (λ p. right y z h (inr p))))
+        by-if-lt R C 0x800 (λ _. tt)
+        (λ h. by-if-lt R C 0xD800 (λ p. right y z h (inl p)) (λ _. by-if-lt R C 0xE000 (λ _. tt) (λ p. right y z h (inr p))))
 
 -- After a first byte of four, what is read is right.
 reads-4 : (b x : ℕ) (l : Bytes) → b ≡ 0xF0 + x
     → Reads (b ∷ l) (four x (tail-bits (getD l 0 0)) (tail-bits (getD l 1 0)) (tail-bits (getD l 2 0)))
 unfolding four tail-bits four-bytes
 reads-4 b x [] e = tt
-reads-4 b x (d ∷ []) e = by-lt (Reads (b ∷ d ∷ [])) (tail-bits d) 64 (λ _. tt) (λ _. tt)
-reads-4 b x (d ∷ f ∷ []) e = by-lt R (tail-bits d) 64 (λ _. by-lt R (tail-bits f) 64 (λ _. tt) (λ _. tt)) (λ _. tt)
+reads-4 b x (d ∷ []) e = by-if-lt (Reads (b ∷ d ∷ [])) (tail-bits d) 64 (λ _. tt) (λ _. tt)
+reads-4 b x (d ∷ f ∷ []) e = by-if-lt R (tail-bits d) 64 (λ _. by-if-lt R (tail-bits f) 64 (λ _. tt) (λ _. tt)) (λ _. tt)
   where
     R : Sequence → Type 0
     R = Reads (b ∷ d ∷ f ∷ [])
 reads-4 b x (d ∷ f ∷ g ∷ l) e =
-    by-lt R (tail-bits d) 64 (λ y. by-lt R (tail-bits f) 64 (λ z. by-lt R (tail-bits g) 64 (code y z) (λ _. tt)) (λ _. tt)) (λ _. tt)
+    by-if-lt R (tail-bits d) 64 (λ y. by-if-lt R (tail-bits f) 64 (λ z. by-if-lt R (tail-bits g) 64 (code y z) (λ _. tt)) (λ _. tt)) (λ _. tt)
   where
     R : Sequence → Type 0
     R = Reads (b ∷ d ∷ f ∷ g ∷ l)
@@ -248,7 +248,7 @@ reads-4 b x (d ∷ f ∷ g ∷ l) e =
     right y z t h p = spelled (b ∷ d ∷ f ∷ g ∷ []) l (record { small = omega arith; plain = inr (omega arith) }) (is y z t h) refl
 
     code : tail-bits d < 64 → tail-bits f < 64 → tail-bits g < 64 → R (four-bytes C)
-    code y z t = by-lt R C 0x10000 (λ _. tt) (λ h. by-lt R C 0x110000 (right y z t h) (λ _. tt))
+    code y z t = by-if-lt R C 0x10000 (λ _. tt) (λ h. by-if-lt R C 0x110000 (right y z t h) (λ _. tt))
 
 -- Whatever the bytes are, what is read at their start is right.
 reads : (l : Bytes) → Reads l (sequence-at l 0)
@@ -256,11 +256,11 @@ unfolding sequence
 reads [] = rw (read-end [] 0 (omega arith))
 reads (b ∷ l) =
     rw read-first
-    (by-lt R b 0x80 (λ h. spelled (b ∷ []) l (record { small = omega arith; plain = inl (omega arith) }) (encode-1 b h) refl)
-    (λ _. by-lt R b 0xC2 (λ _. tt)
-    (λ h. by-lt R b 0xE0 (λ k. reads-2 b (b - 0xC0) l (omega arith) (omega arith) (omega arith))
-    (λ h. by-lt R b 0xF0 (λ k. reads-3 b (b - 0xE0) l (omega arith) (omega arith))
-    (λ h. by-lt R b 0xF5 (λ k. reads-4 b (b - 0xF0) l (omega arith)) (λ _. tt))))))
+    (by-if-lt R b 0x80 (λ h. spelled (b ∷ []) l (record { small = omega arith; plain = inl (omega arith) }) (encode-1 b h) refl)
+    (λ _. by-if-lt R b 0xC2 (λ _. tt)
+    (λ h. by-if-lt R b 0xE0 (λ k. reads-2 b (b - 0xC0) l (omega arith) (omega arith) (omega arith))
+    (λ h. by-if-lt R b 0xF0 (λ k. reads-3 b (b - 0xE0) l (omega arith) (omega arith))
+    (λ h. by-if-lt R b 0xF5 (λ k. reads-4 b (b - 0xF0) l (omega arith)) (λ _. tt))))))
   where
     R : Sequence → Type 0
     R = Reads (b ∷ l)

@@ -16,7 +16,7 @@ use Rattle.definition.specs.declared.Sequence.{Sequence}
 use Rattle.definition.specs.declared.Sequence.the-variants.{Char, Bad, End}
 use Rattle.definition.specs.declared.Letter.the-variants.{Code, Past}
 use Rattle.definition.specs.declared.Match.the-variants.{To, Nothing}
-use Rattle.lemmas.proofs.Tests.{by-order}
+use Rattle.lemmas.proofs.Cases.{by-order}
 use Rattle.text.specs.Chars.{CharAt, CharTo, Rest, Run, Next, chars-from, first-letter, take-while}
 use Rattle.text.proofs.Reading.{read-end, get-of, next-of, No-char, with-none}
 use Rattle.text.proofs.Character.{read-encode, end-read, char-read, read-char, char-within}

@@ -14,7 +14,7 @@ use Rattle.definition.specs.declared.Sequence.the-variants.{Char, Bad, End}
 use Rattle.definition.specs.declared.Letter.the-variants.{Code, Past}
 use Rattle.definition.specs.declared.Octet.the-variants.{Byte, Past as No-byte}
 use Rattle.definition.specs.declared.Match.the-variants.{To, Nothing}
-use Rattle.lemmas.proofs.Tests.{tests, by-order}
+use Rattle.lemmas.proofs.Cases.{tests, by-order}
 
 -- ---- what stands at an offset
 

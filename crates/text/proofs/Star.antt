@@ -1,80 +1,55 @@
 -- `star` turn by turn, with no fuel to see, and what it is of the characters. Rests on `definition`, `lemmas` and the laws of runs.
-use Prim.Native.Nat.{ℕ, zero, suc, _+_, _≤_}
+use Prim.Native.Nat.{ℕ, zero, suc, _+_, _-_, _≤_, _<_}
 use mathlib.Core.Path.{_≡_, refl, sym, ap, _∙_}
 use mathlib.Core.Bool.{Bool, true, false}
 use mathlib.Core.List.{List, [], _∷_, _++_, append-assoc}
 use native.Mathlib.Nat.{add-zero}
 use native.Mathlib.Omega.{arith}
 use lib.ListN.{length, drop, length-append}
-use Rattle.definition.specs.Basics.{Bytes, Turn, again, done, loop}
+use Rattle.definition.specs.Basics.{Bytes, Turn, again, done, loop, fuel}
 use Rattle.definition.specs.Utf8.{encode, encode-all, Scalars, sequence-at}
-use Rattle.definition.specs.Text.{star-turn, star}
-use Rattle.definition.specs.declared.Sequence.the-variants.{Char}
-use Rattle.lemmas.proofs.Tests.{by-outcome}
+use Rattle.definition.specs.Text.{with-char, star-turn, star}
+use Rattle.definition.specs.declared.Sequence.{Sequence}
+use Rattle.definition.specs.declared.Sequence.the-variants.{Char, Bad, End}
+use Rattle.lemmas.proofs.Cases.{by-outcome, by-test}
+use Rattle.lemmas.proofs.Loops.{says, Leads, Falls, Any, loop-same, loop-unroll}
 use Rattle.text.specs.Chars.{Pass, Run, chars-from, take-while}
 use Rattle.text.proofs.Reading.{No-char, with-none}
 use Rattle.text.proofs.Character.{char-read, char-within, read-at}
-use Rattle.text.proofs.Runs.{by-turns, by-chars, chars-on, chars-none, drop-next}
-
--- A turn that calls again takes one turn of the fuel.
-loop-goes : {A R : Type 0} (turn : A → Turn A R) (out : A → R) (n : ℕ) {a b : A} → turn a ≡ again b → loop turn out (suc n) a ≡ loop turn out n b
-unfolding loop
-loop-goes turn out n e = rw (e, loop)
-
--- A turn that answers is the last.
-loop-ends : {A R : Type 0} (turn : A → Turn A R) (out : A → R) (n : ℕ) {a : A} {r : R} → turn a ≡ done r → loop turn out (suc n) a ≡ r
-unfolding loop
-loop-ends turn out n e = rw (e, loop)
+use Rattle.text.proofs.Runs.{by-chars, chars-on, chars-none, drop-next}
 
 module _ (f : ℕ → Bool) (s : Bytes) where
-  -- `star` with n turns
-  abbrev walk : ℕ → ℕ → ℕ
-  walk n i = loop (star-turn f s) (λ j. j) n i
-
-  -- A character that passes is walked over.
-  walk-on : (n i c w : ℕ) → sequence-at s i ≡ Char c w → f c ≡ true → walk (suc n) i ≡ walk n (i + w)
-  walk-on n i c w e t = loop-goes (star-turn f s) (λ j. j) n (rw (e, t))
-
-  -- The walk ends where the turn says so, or with its turns.
-  walk-ends : (n i : ℕ) → star-turn f s i ≡ done i → walk n i ≡ i
-  unfolding loop
-  walk-ends zero i e = refl
-  walk-ends (suc n) i e = loop-ends (star-turn f s) (λ j. j) n e
-
-  -- At a character that doesn't pass the walk ends.
-  walk-stop : (n i c w : ℕ) → sequence-at s i ≡ Char c w → f c ≡ false → walk n i ≡ i
-  walk-stop n i c w e t = walk-ends n i (rw (e, t))
-
-  -- Where none stands it ends too.
-  walk-none : (n i : ℕ) → No-char (sequence-at s i) → walk n i ≡ i
-  walk-none n i h = walk-ends n i (with-none (sequence-at s i) i _ (done i) h)
-
-  -- With enough turns, how many there are doesn't matter.
-  walk-enough : (n m i : ℕ) → length s ≤ i + n → length s ≤ i + m → walk n i ≡ walk m i
-  walk-enough = by-turns s (λ n m i. walk n i ≡ walk m i) (λ n m i h. walk-none n i h ∙ sym (walk-none m i h)) on
+  -- A turn of `star` that calls again has less of the text before it.
+  pub star-falls : Falls (star-turn f s) Any (λ i. length s - i) Any
+  star-falls = record { at = λ i _. go i (sequence-at s i) refl }
     where
-      on : (n m i c w : ℕ) → sequence-at s i ≡ Char c w → walk n (i + w) ≡ walk m (i + w) → walk (suc n) i ≡ walk (suc m) i
-      on n m i c w e ih =
-          by-outcome (f c)
-          (λ t. walk-on n i c w e t ∙ ih ∙ sym (walk-on m i c w e t))
-          (λ t. walk-stop (suc n) i c w e t ∙ sym (walk-stop (suc m) i c w e t))
+      go : (i : ℕ) (q : Sequence) → sequence-at s i ≡ q
+          → Leads (λ j. Any j × (length s - j < length s - i)) Any (with-char q i (λ c j. elim (f c) [ true ↦ again j | false ↦ done i ]) (done i))
+      go i (Char c w) q = by-test (Leads (λ j. Any j × (length s - j < length s - i)) Any) (f c) (λ _. let a = char-within (char-read q) in (tt, omega arith)) (λ _. tt)
+      go i Bad q = tt
+      go i End q = tt
 
-  -- ---- `star` itself
+  -- More fuel and another answer past it change nothing.
+  pub star-enough : (out : ℕ → ℕ) (n i : ℕ) → length s - i < n → loop (star-turn f s) out n i ≡ star f s i
+  unfolding star
+  star-enough out n i h = loop-same star-falls out (λ j. j) n (fuel s) i tt h (omega arith)
+
+  -- `star` is what its first turn says.
+  pub star-unroll : (i : ℕ) → star f s i ≡ says (star-turn f s i) (star f s)
+  unfolding star
+  star-unroll i = loop-unroll star-falls (λ j. j) (fuel s) i tt (omega arith)
 
   -- A character that passes is passed over.
   pub star-on : (i c w : ℕ) → sequence-at s i ≡ Char c w → f c ≡ true → star f s i ≡ star f s (i + w)
-  unfolding star
-  star-on i c w e t = walk-on (length s) i c w e t ∙ walk-enough (length s) (suc (length s)) (i + w) (omega arith) (omega arith)
+  star-on i c w e t = star-unroll i ∙ simp (e, t)
 
   -- At one that doesn't pass the run ends.
   pub star-stop : (i c w : ℕ) → sequence-at s i ≡ Char c w → f c ≡ false → star f s i ≡ i
-  unfolding star
-  star-stop = walk-stop (suc (length s))
+  star-stop i c w e t = star-unroll i ∙ simp (e, t)
 
   -- Where no character stands it ends too.
   pub star-none : (i : ℕ) → No-char (sequence-at s i) → star f s i ≡ i
-  unfolding star
-  star-none = walk-none (suc (length s))
+  star-none i h = star-unroll i ∙ ap (λ (t : Turn ℕ ℕ). says t (star f s)) (with-none (sequence-at s i) i _ (done i) h)
 
   -- What holds of each offset where a run ends there, and of a character that passes from what follows it, holds of each offset and the
   -- end of its run.

@@ -11,7 +11,7 @@ use Rattle.definition.specs.Utf8.{sequence, sequence-at}
 use Rattle.definition.specs.Text.{star, first-bad}
 use Rattle.definition.specs.declared.Sequence.{Sequence}
 use Rattle.definition.specs.declared.Sequence.the-variants.{Char}
-use Rattle.lemmas.proofs.Tests.{tests}
+use Rattle.lemmas.proofs.Cases.{tests}
 use Rattle.text.proofs.Reading.{read-within, read-end, No-char}
 use Rattle.text.proofs.Character.{char-read, char-within}
 use Rattle.text.proofs.Star.{star-on, star-none}

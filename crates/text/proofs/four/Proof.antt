@@ -1,7 +1,7 @@
 -- `four` is the definition's `four`, test by test.
 use borrow.Author.Needs.{needs}
 use Rattle.definition.specs.Utf8.{four}
-use Rattle.lemmas.proofs.Tests.{tests}
+use Rattle.lemmas.proofs.Cases.{tests}
 use Rattle.text.proofs.four.Statement.{statement}
 use Rattle.text.proofs.four.Tie as tie
 

@@ -1,7 +1,7 @@
 -- `four_bytes` is the definition's `four-bytes`, test by test.
 use borrow.Author.Needs.{needs}
 use Rattle.definition.specs.Utf8.{four-bytes}
-use Rattle.lemmas.proofs.Tests.{tests}
+use Rattle.lemmas.proofs.Cases.{tests}
 use Rattle.text.proofs.four_bytes.Statement.{statement}
 use Rattle.text.proofs.four_bytes.Tie as tie
 

@@ -1,7 +1,7 @@
 -- `sequence_at` is the definition's `sequence-at`, test by test; past the first byte the callees say what they are.
 use borrow.Author.Needs.{needs}
 use Rattle.definition.specs.Utf8.{sequence}
-use Rattle.lemmas.proofs.Tests.{tests}
+use Rattle.lemmas.proofs.Cases.{tests}
 use Rattle.text.proofs.Reading.{read-within, read-end}
 use Rattle.text.proofs.sequence_at.Statement.{statement}
 use Rattle.text.proofs.sequence_at.Tie as tie

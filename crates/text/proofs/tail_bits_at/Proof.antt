@@ -4,7 +4,7 @@ use mathlib.Core.Path.{sym, ap}
 use lib.ListN.{List·getD-eq-default}
 use denote.Ref.{now}
 use Rattle.definition.specs.Utf8.{tail-bits}
-use Rattle.lemmas.proofs.Tests.{tests}
+use Rattle.lemmas.proofs.Cases.{tests}
 use Rattle.text.proofs.tail_bits_at.Statement.{statement}
 use Rattle.text.proofs.tail_bits_at.Tie as tie
 

@@ -1,7 +1,7 @@
 -- `three` is the definition's `three`, test by test.
 use borrow.Author.Needs.{needs}
 use Rattle.definition.specs.Utf8.{three}
-use Rattle.lemmas.proofs.Tests.{tests}
+use Rattle.lemmas.proofs.Cases.{tests}
 use Rattle.text.proofs.three.Statement.{statement}
 use Rattle.text.proofs.three.Tie as tie
 

@@ -1,7 +1,7 @@
 -- `three_bytes` is the definition's `three-bytes`, test by test.
 use borrow.Author.Needs.{needs}
 use Rattle.definition.specs.Utf8.{three-bytes}
-use Rattle.lemmas.proofs.Tests.{tests}
+use Rattle.lemmas.proofs.Cases.{tests}
 use Rattle.text.proofs.three_bytes.Statement.{statement}
 use Rattle.text.proofs.three_bytes.Tie as tie
 

@@ -1,7 +1,7 @@
 -- `two` is the definition's `two`, test by test.
 use borrow.Author.Needs.{needs}
 use Rattle.definition.specs.Utf8.{two}
-use Rattle.lemmas.proofs.Tests.{tests}
+use Rattle.lemmas.proofs.Cases.{tests}
 use Rattle.text.proofs.two.Statement.{statement}
 use Rattle.text.proofs.two.Tie as tie
 

@@ -1,12 +1,26 @@
--- By cases on the test or on the match that a definition goes by, keeping what the case says. Rests on nothing.
+-- By cases on the test or on the match that a definition goes by, keeping what the case says, and tests decided by what is known of
+-- their numbers. Rests on the tests' own laws, `borrow.Author.Tests`.
 use Prim.Native.Nat.{ℕ, _≤_, _<_}
 use mathlib.Core.Path.{_≡_, refl}
 use mathlib.Core.Bool.{Bool, true, false, _&&_, _||_, false≢true}
 use lib.Dec.{ltb, leb}
-use borrow.Author.Tests.{ltb-true, ltb-false, leb-true, leb-false}
+use borrow.Author.Tests.{lt-ltb, le-ltb, ltb-true, ltb-false, leb-true, leb-false}
 use Rattle.definition.specs.Basics.{if_then_else_}
 use Rattle.definition.specs.declared.Match.{Match}
 use Rattle.definition.specs.declared.Match.the-variants.{To, Nothing}
+
+-- for `simp` and `search`: a test for less is decided by what is known of its numbers
+pub ruleset tests = (lt-ltb, le-ltb)
+
+module _ {X : Type 0} where
+  -- by a test's outcome
+  pub by-outcome : (t : Bool) → (t ≡ true → X) → (t ≡ false → X) → X
+  by-outcome true f g = f refl
+  by-outcome false f g = g refl
+
+  -- of two numbers the first is below the second or not
+  pub by-order : (a b : ℕ) → (a < b → X) → (b ≤ a → X) → X
+  by-order a b f g = by-outcome (ltb a b) (λ e. f (ltb-true a b e)) (λ e. g (ltb-false a b e))
 
 module _ {X : Type 0} (P : X → Type 0) where
   -- by a test
