@@ -1,4 +1,3 @@
 mod Tables
 mod Cases
 mod Limits
-pub mod Closing

@@ -60,7 +60,7 @@ gives (again st) = 0
 gives (done t) = t .item .kind
 
 -- what each place gives, tried on a text of one character and on the first word of its table: places 7, 8 and 29 skip, 28 and 30
--- give comments, and an open blob and an open string are errors
+-- give comments, and a bad number, an open blob and an open string are errors
 abbrev given-by-place : List String
 given-by-place =
     "SPLICE" ∷ "ERROR" ∷ "USE_LANG_BLOB" ∷ "STRING" ∷ "INT" ∷ "STRING" ∷ "" ∷ "" ∷ "CHAR" ∷ "CHAR"

@@ -51,7 +51,8 @@ blob-turn s from h st =
 unfoldable pub blob : Bytes → Header → State → Step
 blob s h st = loop (blob-turn s (st .offset) h) (unterminated s) (fuel s) st
 
--- one call of `use_lang`; it ends at the text's end alone
+-- one call of `use_lang`; it ends at the text's end alone. Before it a line end stands where the run of other characters ends, so
+-- that the last arm, like `out` below, is never taken
 abbrev pub lang-turn : Bytes → ℕ → Header → State → Turn State Step
 lang-turn s from h st =
     let i = st .offset in

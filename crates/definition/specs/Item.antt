@@ -20,7 +20,7 @@ pub record Step : Type 0 where
   pub payload : Bytes
   pub next : State
 
--- ---- the kinds of items
+-- ---- tokens, errors and comments
 
 -- `tok`
 abbrev pub tok : ℕ → Bytes → Pos → Pos → Extra → State → Step

@@ -11,7 +11,7 @@ use Rattle.definition.specs.Lowercase.{flat}
 use Rattle.definition.specs.Tables.{cps}
 use Rattle.definition.specs.State.{state-words, no-pos, started, sound, start}
 use Rattle.definition.specs.Item.{mark}
-use Rattle.definition.specs.Run.{Outcome, text-too-long, name-too-long, run}
+use Rattle.definition.specs.Run.{Outcome, text-too-long, name-too-long, refusal, run}
 use Rattle.definition.specs.Cases.{no-ranges, token, eof, a-comment}
 use Rattle.definition.specs.Listed.{said, listed}
 use Rattle.definition.specs.declared.Pos.{Pos}
@@ -38,6 +38,10 @@ answer o = o .0 .refusal ∷ o .0 .offset ∷ o .0 .stop ∷ o .0 .count ∷ sta
 -- the answer, and then both buffers
 unfoldable pub all-of : Outcome → List ℕ
 all-of o = answer o ++ (o .1 ++ o .2)
+
+-- the refusal of a text, and its offset
+unfoldable pub bad-at : Bytes → List ℕ
+bad-at s = let r = refusal s [] no-ranges (started 1 0) in r .0 ∷ r .1 ∷ []
 
 -- ---- class files, made from their ranges
 
@@ -104,6 +108,31 @@ in-mode mode depth col = record {
   comment = record { line = 0; col = col };
 }
 
+-- in mode 1 with so many comments and levels, and in a mode with a comment start on line 1
+abbrev pub commented : ℕ → ℕ → State
+commented comments depth = record {
+  offset = 3;
+  line = 1;
+  bol = 0;
+  column = 0;
+  comments = comments;
+  mode = 1;
+  depth = depth;
+  comment = no-pos;
+}
+
+abbrev pub started-in-comment : ℕ → State
+started-in-comment mode = record {
+  offset = 3;
+  line = 1;
+  bol = 0;
+  column = 0;
+  comments = 0;
+  mode = mode;
+  depth = 0;
+  comment = record { line = 1; col = 0 };
+}
+
 abbrev pub is-sound : State → List ℕ
 is-sound st = yes-or-no (sound two-letters st)
 
@@ -112,7 +141,7 @@ is-sound st = yes-or-no (sound two-letters st)
 abbrev pub run-on : Bytes → State → ℕ → ℕ → Outcome
 run-on s st n m = run s [] no-ranges st (replicate n 7) (replicate m 7)
 
--- the items that two runs say, as one list
+-- some items as one list of numbers
 abbrev pub flattened : List (List ℕ) → List ℕ
 flattened [] = []
 flattened (l ∷ ls) = l ++ flattened ls
@@ -158,14 +187,25 @@ refusal-rows =
     ∷ ("a text of 1,048,577 bytes is refusal 6", yes-or-no (text-too-long 1048577), 1 ∷ [])
     ∷ ("a name of 4,096 bytes", yes-or-no (name-too-long 4096), 0 ∷ [])
     ∷ ("a name of 4,097 bytes is refusal 7", yes-or-no (name-too-long 4097), 1 ∷ [])
-    ∷ ("3", all-of (run [] [] [] (started 1 0) (7 ∷ []) (8 ∷ [])), 3 ∷ 0 ∷ 0 ∷ 0 ∷ (state-words (started 1 0) ++ (7 ∷ 8 ∷ [])))
-    ∷ ("4", all-of (run [] [] (no-ranges ++ (0 ∷ [])) (started 1 0) (7 ∷ []) (8 ∷ [])), 4 ∷ 0 ∷ 0 ∷ 0 ∷ (state-words (started 1 0) ++ (7 ∷ 8 ∷ [])))
-    ∷ ("5", all-of (run [] [] (file [] ((201, 200) ∷ [])) (started 1 0) (7 ∷ []) (8 ∷ [])), 5 ∷ 0 ∷ 0 ∷ 0 ∷ (state-words (started 1 0) ++ (7 ∷ 8 ∷ [])))
+    ∷ ("refusal 3 alters nothing", all-of (run [] [] [] (started 1 0) (7 ∷ []) (8 ∷ [])), 3 ∷ 0 ∷ 0 ∷ 0 ∷ (state-words (started 1 0) ++ (7 ∷ 8 ∷ [])))
+    ∷ ("refusal 4 alters nothing", all-of (run [] [] (no-ranges ++ (0 ∷ [])) (started 1 0) (7 ∷ []) (8 ∷ [])), 4 ∷ 0 ∷ 0 ∷ 0 ∷ (state-words (started 1 0) ++ (7 ∷ 8 ∷ [])))
+    ∷ ("refusal 5 alters nothing", all-of (run [] [] (file [] ((201, 200) ∷ [])) (started 1 0) (7 ∷ []) (8 ∷ [])), 5 ∷ 0 ∷ 0 ∷ 0 ∷ (state-words (started 1 0) ++ (7 ∷ 8 ∷ [])))
     ∷ ("3 goes before 8", answer (run (255 ∷ []) [] [] (started 1 0) [] []), 3 ∷ 0 ∷ 0 ∷ 0 ∷ state-words (started 1 0))
-    ∷ ("8 with its offset", all-of (run (97 ∷ 255 ∷ []) [] no-ranges (started 1 0) (7 ∷ []) (8 ∷ [])), 8 ∷ 1 ∷ 0 ∷ 0 ∷ (state-words (started 1 0) ++ (7 ∷ 8 ∷ [])))
+    ∷ ("refusal 8 has its offset and alters nothing", all-of (run (97 ∷ 255 ∷ []) [] no-ranges (started 1 0) (7 ∷ []) (8 ∷ [])), 8 ∷ 1 ∷ 0 ∷ 0 ∷ (state-words (started 1 0) ++ (7 ∷ 8 ∷ [])))
     ∷ ("8 at the first byte of what is cut short", answer (run (97 ∷ 0xE2 ∷ 0x88 ∷ []) [] no-ranges (started 1 0) [] []), 8 ∷ 1 ∷ 0 ∷ 0 ∷ state-words (started 1 0))
+    ∷ ("the least of two bytes", bad-at (0xC2 ∷ 0x80 ∷ []), 0 ∷ 0 ∷ [])
+    ∷ ("below the least of two bytes", bad-at (0xC1 ∷ 0xBF ∷ []), 8 ∷ 0 ∷ [])
+    ∷ ("the least of three bytes", bad-at (0xE0 ∷ 0xA0 ∷ 0x80 ∷ []), 0 ∷ 0 ∷ [])
+    ∷ ("below the least of three bytes", bad-at (0xE0 ∷ 0x9F ∷ 0xBF ∷ []), 8 ∷ 0 ∷ [])
+    ∷ ("below the surrogates", bad-at (0xED ∷ 0x9F ∷ 0xBF ∷ []), 0 ∷ 0 ∷ [])
+    ∷ ("the least surrogate", bad-at (0xED ∷ 0xA0 ∷ 0x80 ∷ []), 8 ∷ 0 ∷ [])
+    ∷ ("the least of four bytes", bad-at (0xF0 ∷ 0x90 ∷ 0x80 ∷ 0x80 ∷ []), 0 ∷ 0 ∷ [])
+    ∷ ("below the least of four bytes", bad-at (0xF0 ∷ 0x8F ∷ 0xBF ∷ 0xBF ∷ []), 8 ∷ 0 ∷ [])
+    ∷ ("the greatest code point", bad-at (0xF4 ∷ 0x8F ∷ 0xBF ∷ 0xBF ∷ []), 0 ∷ 0 ∷ [])
+    ∷ ("above the greatest code point", bad-at (0xF4 ∷ 0x90 ∷ 0x80 ∷ 0x80 ∷ []), 8 ∷ 0 ∷ [])
+    ∷ ("a byte that continues nothing, behind a character of two bytes", bad-at (0xC3 ∷ 0xA9 ∷ 0x80 ∷ []), 8 ∷ 2 ∷ [])
     ∷ ("8 goes before 9", answer (run (255 ∷ []) [] no-ranges (between-items 9 0 0 0 0) [] []), 8 ∷ 0 ∷ 0 ∷ 0 ∷ state-words (between-items 9 0 0 0 0))
-    ∷ ("9", all-of (run [] [] no-ranges (between-items 1 0 0 0 0) (7 ∷ []) (8 ∷ [])), 9 ∷ 0 ∷ 0 ∷ 0 ∷ (state-words (between-items 1 0 0 0 0) ++ (7 ∷ 8 ∷ [])))
+    ∷ ("refusal 9 alters nothing", all-of (run [] [] no-ranges (between-items 1 0 0 0 0) (7 ∷ []) (8 ∷ [])), 9 ∷ 0 ∷ 0 ∷ 0 ∷ (state-words (between-items 1 0 0 0 0) ++ (7 ∷ 8 ∷ [])))
     ∷ []
 
 unfoldable pub sound-rows : List Row
@@ -182,27 +222,18 @@ sound-rows =
     ∷ ("line-start column 1,000,001", is-sound (between-items 3 1 0 1000001 0), 0 ∷ [])
     ∷ ("3 comments at offset 3", is-sound (between-items 3 1 0 0 3), 1 ∷ [])
     ∷ ("4 comments at offset 3", is-sound (between-items 3 1 0 0 4), 0 ∷ [])
+    ∷ ("2 comments and depth 1 at offset 3", is-sound (commented 2 1), 1 ∷ [])
+    ∷ ("2 comments and depth 2 at offset 3", is-sound (commented 2 2), 0 ∷ [])
     ∷ ("depth 3 at offset 3", is-sound (in-comment 3 1 3 1 0), 1 ∷ [])
     ∷ ("depth 4 at offset 3", is-sound (in-comment 3 1 4 1 0), 0 ∷ [])
     ∷ ("depth 0 in mode 1", is-sound (in-comment 3 1 0 1 0), 0 ∷ [])
-    ∷ (
-      "depth 2^32-1, whose sum with a comment 32 bits don't count",
-      is-sound (record {
-        offset = 3;
-        line = 1;
-        bol = 0;
-        column = 0;
-        comments = 1;
-        mode = 1;
-        depth = 4294967295;
-        comment = no-pos;
-      }),
-      0 ∷ [],
-    )
+    ∷ ("depth 2^32-1, whose sum with a comment 32 bits don't count", is-sound (commented 1 4294967295), 0 ∷ [])
     ∷ ("mode 2", is-sound (in-mode 2 0 0), 1 ∷ [])
     ∷ ("mode 3", is-sound (in-mode 3 0 0), 0 ∷ [])
     ∷ ("depth 1 in mode 0", is-sound (in-mode 0 1 0), 0 ∷ [])
-    ∷ ("a comment start in mode 2", is-sound (in-mode 2 0 1), 0 ∷ [])
+    ∷ ("a comment start's column in mode 2", is-sound (in-mode 2 0 1), 0 ∷ [])
+    ∷ ("a comment start's line in mode 0", is-sound (started-in-comment 0), 0 ∷ [])
+    ∷ ("a comment start's line in mode 2", is-sound (started-in-comment 2), 0 ∷ [])
     ∷ ("a comment start on the line", is-sound (in-comment 3 1 1 1 0), 1 ∷ [])
     ∷ ("a comment start on a later line", is-sound (in-comment 3 1 1 2 0), 0 ∷ [])
     ∷ ("a comment start at column 2,048,576", is-sound (in-comment 3 1 1 1 2048576), 1 ∷ [])
@@ -225,15 +256,21 @@ the-end = 1 ∷ 165 ∷ 1 ∷ 3 ∷ 1 ∷ 3 ∷ 2 ∷ 0 ∷ 0 ∷ 0 ∷ 0 ∷ 0 
 abbrev pub at-line-1 : ℕ → ℕ → List ℕ
 at-line-1 offset mode = offset ∷ 1 ∷ 0 ∷ 0 ∷ 0 ∷ mode ∷ 0 ∷ 0 ∷ 0 ∷ []
 
+-- a blob named f, whose contents are a line end and an x
+abbrev pub a-blob-text : Bytes
+a-blob-text = cps "```f\nx```"
+
 unfoldable pub stop-rows : List Row
 stop-rows =
     ("the end in the last 16 numbers is stop 0", all-of (run-on ab (started 1 0) 48 2), 0 ∷ 0 ∷ 0 ∷ 3 ∷ (at-line-1 3 2 ++ (first-ident ++ (second-ident ++ (the-end ++ cps "ab")))))
     ∷ ("15 numbers left are stop 1, and keep what they held", all-of (run-on ab (started 1 0) 47 3), 0 ∷ 0 ∷ 1 ∷ 2 ∷ (at-line-1 3 0 ++ (first-ident ++ (second-ident ++ (replicate 15 7 ++ (cps "ab" ++ (7 ∷ [])))))))
     ∷ ("a payload too long is stop 2", all-of (run-on ab (started 1 0) 48 1), 0 ∷ 0 ∷ 2 ∷ 1 ∷ (at-line-1 1 0 ++ (first-ident ++ (replicate 32 7 ++ cps "a"))))
+    ∷ ("a blob's name and contents are one payload", answer (run-on a-blob-text (started 1 0) 32 2), 0 ∷ 0 ∷ 2 ∷ 0 ∷ at-line-1 0 0)
+    ∷ ("with room for both it is written", answer (run-on a-blob-text (started 1 0) 32 3), 0 ∷ 0 ∷ 0 ∷ 2 ∷ 9 ∷ 2 ∷ 5 ∷ 0 ∷ 0 ∷ 2 ∷ 0 ∷ 0 ∷ 0 ∷ [])
     ∷ ("1 goes before 2", all-of (run-on ab (started 1 0) 31 1), 0 ∷ 0 ∷ 1 ∷ 1 ∷ (at-line-1 1 0 ++ (first-ident ++ (replicate 15 7 ++ cps "a"))))
     ∷ ("no room at all: the state given", answer (run-on ab (started 1 0) 0 0), 0 ∷ 0 ∷ 1 ∷ 0 ∷ at-line-1 0 0)
     ∷ ("white before an unwritten item is not in the state", answer (run-on (cps ";     a") (started 1 0) 16 9), 0 ∷ 0 ∷ 1 ∷ 1 ∷ at-line-1 1 0)
-    ∷ ("at the text's end in mode 0 the end is still owed", answer (run-on [] (started 1 0) 15 0), 0 ∷ 0 ∷ 1 ∷ 0 ∷ at-line-1 0 0)
+    ∷ ("at the text's end in mode 0 the end is still to be written", answer (run-on [] (started 1 0) 15 0), 0 ∷ 0 ∷ 1 ∷ 0 ∷ at-line-1 0 0)
     ∷ ("mode 2 gives no items, with room", answer (run-on ab (in-mode 2 0 0) 48 9), 0 ∷ 0 ∷ 0 ∷ 0 ∷ 3 ∷ 1 ∷ 0 ∷ 0 ∷ 0 ∷ 2 ∷ 0 ∷ 0 ∷ 0 ∷ [])
     ∷ ("mode 2 gives no items, without room", answer (run-on ab (in-mode 2 0 0) 0 0), 0 ∷ 0 ∷ 0 ∷ 0 ∷ 3 ∷ 1 ∷ 0 ∷ 0 ∷ 0 ∷ 2 ∷ 0 ∷ 0 ∷ 0 ∷ [])
     ∷ []
@@ -262,7 +299,7 @@ carried-rows =
     ∷ []
 
 unfoldable pub limit-rows : List Row
-unfolding started-with answer all-of start-rows class-rows refusal-rows sound-rows stop-rows carried-rows pairs bodies flat bad-class-length text-too-long name-too-long sound start listed
+unfolding started-with answer all-of bad-at start-rows class-rows refusal-rows sound-rows stop-rows carried-rows pairs bodies flat bad-class-length text-too-long name-too-long sound start listed
 limit-rows = start-rows ++ (class-rows ++ (refusal-rows ++ (sound-rows ++ (stop-rows ++ carried-rows))))
 
 abbrev pub given : List (List ℕ)

@@ -37,7 +37,7 @@ abbrev pub only : Bool → Match → Match
 only true m = m
 only false m = Nothing
 
--- one character that passes a test; one byte
+-- one character that passes a test
 unfoldable pub one : (ℕ → Bool) → Bytes → ℕ → Match
 one p s i = with-char (sequence-at s i) i (λ c j. elim (p c) [ true ↦ To j | false ↦ Nothing ]) Nothing
 

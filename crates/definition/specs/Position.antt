@@ -1,4 +1,4 @@
--- Columns and positions: the source's `count_chars`, `col_of`, `pos_of`, `cur_pos` and `new_line`.
+-- Columns and positions: the source's `count_chars`, `col_of`, `pos_of` and `cur_pos`.
 use Prim.Native.Nat.{ℕ, zero, suc, _+_, _-_}
 use mathlib.Core.Bool.{Bool, true, false}
 use lib.ListN.{getD}

@@ -55,19 +55,6 @@ new-line st = record {
   comment = st .comment;
 }
 
--- the reading has ended, with EOF or ERROR
-abbrev pub ended : State → State
-ended st = record {
-  offset = st .offset;
-  line = st .line;
-  bol = st .bol;
-  column = st .column;
-  comments = st .comments;
-  mode = 2;
-  depth = st .depth;
-  comment = st .comment;
-}
-
 -- `add_comment`, as far as it counts
 abbrev pub one-more-comment : State → State
 one-more-comment st = record {
@@ -81,57 +68,42 @@ one-more-comment st = record {
   comment = st .comment;
 }
 
--- a call of `comment` from outside: one level is open, and its start is p
-abbrev pub open-comment : State → Pos → State
-open-comment st p = record {
+-- another mode, depth and comment start
+abbrev pub with-mode : State → ℕ → ℕ → Pos → State
+with-mode st mode depth comment = record {
   offset = st .offset;
   line = st .line;
   bol = st .bol;
   column = st .column;
   comments = st .comments;
-  mode = 1;
-  depth = 1;
-  comment = p;
+  mode = mode;
+  depth = depth;
+  comment = comment;
 }
+
+-- the reading has ended, with EOF or ERROR
+abbrev pub ended : State → State
+ended st = with-mode st 2 (st .depth) (st .comment)
+
+-- a call of `comment` from outside: one level is open, and its start is p
+abbrev pub open-comment : State → Pos → State
+open-comment st p = with-mode st 1 1 p
 
 -- a call of `comment` from inside: one level more
 abbrev pub deeper : State → State
-deeper st = record {
-  offset = st .offset;
-  line = st .line;
-  bol = st .bol;
-  column = st .column;
-  comments = st .comments;
-  mode = st .mode;
-  depth = st .depth + 1;
-  comment = st .comment;
-}
+deeper st = with-mode st (st .mode) (st .depth + 1) (st .comment)
 
--- a return from `comment`: one level less, and with none left the comment is over
+-- a return from `comment` to `comment`: one comment more, one level less
+abbrev pub close-level : State → State
+close-level st = with-mode (one-more-comment st) 1 (st .depth - 1) (st .comment)
+
+-- a return from the outermost `comment`: one comment more, and no level is open
+abbrev pub close-last : State → State
+close-last st = with-mode (one-more-comment st) 0 0 no-pos
+
+-- a return from `comment`, by the levels that are open
 unfoldable pub close-comment : State → State
-close-comment st =
-    elim (ltb 1 (st .depth)) [
-      | true ↦ record {
-        offset = st .offset;
-        line = st .line;
-        bol = st .bol;
-        column = st .column;
-        comments = st .comments + 1;
-        mode = 1;
-        depth = st .depth - 1;
-        comment = st .comment;
-      }
-      | false ↦ record {
-        offset = st .offset;
-        line = st .line;
-        bol = st .bol;
-        column = st .column;
-        comments = st .comments + 1;
-        mode = 0;
-        depth = 0;
-        comment = no-pos;
-      }
-    ]
+close-comment st = elim (ltb 1 (st .depth)) [ true ↦ close-level st | false ↦ close-last st ]
 
 -- ---- document 01, "Items and saved state": a sound state
 

@@ -2,8 +2,8 @@
 // definition of the whole lexer. Proved: each method is the definition's change of the state, and (in proofs/) the
 // definition computes document 01's cases. Assumed: nothing.
 ghost use mathlib.Core.Path.{_≡_};
-ghost use Prim.Native.Nat.{_<_};
-ghost use Rattle.definition.specs.State.{advance, new-line, deeper, open-comment, close-comment};
+ghost use Prim.Native.Nat.{_<_, _≤_};
+ghost use Rattle.definition.specs.State.{advance, new-line, deeper, open-comment, close-level, close-last};
 
 // What stands at an offset of some bytes: a legal UTF-8 sequence, as its code point and its width in bytes;
 // bytes that no legal sequence starts; or the end.
@@ -97,18 +97,24 @@ impl State {
         self
     }
 
-    // A level of the comment was closed; with none left the comment is over.
-    pub fn close_comment(mut self) -> State
-        requires { ⌜ self .comments < 4294967295 ⌝ }
-        ensures { λ r. ⌜ r ≡ close-comment self ⌝ }
+    // A level of the comment was closed, and others are open.
+    pub fn close_level(mut self) -> State
+        requires { ⌜ (self .comments < 4294967295) × (1 ≤ self .depth) ⌝ }
+        ensures { λ r. ⌜ r ≡ close-level self ⌝ }
     {
         self.comments += 1;
-        if 1 < self.depth {
-            self.mode = 1;
-            self.depth -= 1;
-            return self;
-        }
+        self.mode = 1;
+        self.depth -= 1;
+        self
+    }
+
+    // The last level of the comment was closed: the comment is over.
+    pub fn close_last(mut self) -> State
+        requires { ⌜ self .comments < 4294967295 ⌝ }
+        ensures { λ r. ⌜ r ≡ close-last self ⌝ }
+    {
         let nowhere = Pos { line: 0, col: 0 };
+        self.comments += 1;
         self.mode = 0;
         self.depth = 0;
         self.comment = nowhere;

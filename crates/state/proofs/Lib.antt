@@ -1,2 +1,3 @@
 mod Ladders
 mod Starting
+mod Closing
