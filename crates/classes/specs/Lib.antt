@@ -1,0 +1,2 @@
+-- What the search among ranges answers.
+pub mod Search
