@@ -5,7 +5,12 @@ use crate::member::{is_lm, is_lo, is_lt, is_lu, is_sm, is_zs};
 ghost use mathlib.Core.Path.{_≡_};
 ghost use Rattle.definition.specs.Basics.{between as between-codes};
 ghost use Rattle.definition.specs.ClassFile.{class-check};
+ghost use Rattle.classes.specs.Parts.{ascii-ident-char, listed-white};
 ghost use Rattle.definition.specs.Chars.{is-digit, is-hex, is-lower, is-ident-start, is-constructor-start, is-ident-char, is-anywhite, is-newline-char, is-uoperator};
+
+const UNDERSCORE: u32 = 95;
+
+const QUOTE: u32 = 39;
 
 // c is one of the characters from `first` to `last`.
 fn between(first: u8, last: u8, c: u32) -> bool
@@ -23,7 +28,13 @@ pub fn is_digit(c: u32) -> bool
 pub fn is_hex(c: u32) -> bool
     ensures { λ r. ⌜ r ≡ is-hex c ⌝ }
 {
-    is_digit(c) || between(b'A', b'F', c) || between(b'a', b'f', c)
+    if is_digit(c) {
+        return true;
+    }
+    if between(b'A', b'F', c) {
+        return true;
+    }
+    between(b'a', b'f', c)
 }
 
 pub fn is_lower(c: u32) -> bool
@@ -38,7 +49,13 @@ pub fn is_lower(c: u32) -> bool
 pub fn is_ident_start(c: u32) -> bool
     ensures { λ r. ⌜ r ≡ is-ident-start c ⌝ }
 {
-    c == b'_' as u32 || c == b'\'' as u32 || is_lower(c)
+    if c == UNDERSCORE {
+        return true;
+    }
+    if c == QUOTE {
+        return true;
+    }
+    is_lower(c)
 }
 
 pub fn is_constructor_start(file: &[u8], c: u32) -> bool
@@ -48,7 +65,29 @@ pub fn is_constructor_start(file: &[u8], c: u32) -> bool
     if c < ASCII_LIMIT {
         return between(b'A', b'Z', c);
     }
-    is_lu(file, c) || is_lt(file, c)
+    if is_lu(file, c) {
+        return true;
+    }
+    is_lt(file, c)
+}
+
+// The ASCII part of `is_ident_char`.
+fn is_ascii_ident_char(c: u32) -> bool
+    ensures { λ r. ⌜ r ≡ ascii-ident-char c ⌝ }
+{
+    if between(b'a', b'z', c) {
+        return true;
+    }
+    if between(b'A', b'Z', c) {
+        return true;
+    }
+    if is_digit(c) {
+        return true;
+    }
+    if c == QUOTE {
+        return true;
+    }
+    c == UNDERSCORE
 }
 
 pub fn is_ident_char(file: &[u8], c: u32) -> bool
@@ -56,33 +95,77 @@ pub fn is_ident_char(file: &[u8], c: u32) -> bool
     ensures { λ r. ⌜ r ≡ is-ident-char (now (file .entry)) c ⌝ }
 {
     if c < ASCII_LIMIT {
-        return between(b'a', b'z', c) || between(b'A', b'Z', c) || is_digit(c) || c == b'\'' as u32 || c == b'_' as u32;
+        return is_ascii_ident_char(c);
     }
-    is_ll(c) || is_lu(file, c) || is_lo(file, c) || is_lm(file, c)
+    if is_ll(c) {
+        return true;
+    }
+    if is_lu(file, c) {
+        return true;
+    }
+    if is_lo(file, c) {
+        return true;
+    }
+    is_lm(file, c)
+}
+
+// The white characters that no class is asked about: space, tab, vertical tab, form feed, U+00A0 and U+FEFF.
+fn is_listed_white(c: u32) -> bool
+    ensures { λ r. ⌜ r ≡ listed-white c ⌝ }
+{
+    if c == 32 {
+        return true;
+    }
+    if c == 9 {
+        return true;
+    }
+    if c == 11 {
+        return true;
+    }
+    if c == 12 {
+        return true;
+    }
+    if c == 0xA0 {
+        return true;
+    }
+    c == 0xFEFF
 }
 
 pub fn is_anywhite(file: &[u8], c: u32) -> bool
     requires { ⌜ class-check (now file) ≡ 0 ⌝ }
     ensures { λ r. ⌜ r ≡ is-anywhite (now (file .entry)) c ⌝ }
 {
-    match c {
-        32 | 9 | 11 | 12 | 0xA0 | 0xFEFF => true,
-        _ => ASCII_LIMIT <= c && is_zs(file, c),
+    if is_listed_white(c) {
+        return true;
     }
+    if c < ASCII_LIMIT {
+        return false;
+    }
+    is_zs(file, c)
 }
 
+// LF, CR, U+2028 and U+2029.
 pub fn is_newline_char(c: u32) -> bool
     ensures { λ r. ⌜ r ≡ is-newline-char c ⌝ }
 {
-    match c {
-        10 | 13 | 0x2028 | 0x2029 => true,
-        _ => false,
+    if c == 10 {
+        return true;
     }
+    if c == 13 {
+        return true;
+    }
+    if c == 0x2028 {
+        return true;
+    }
+    c == 0x2029
 }
 
 pub fn is_uoperator(file: &[u8], c: u32) -> bool
     requires { ⌜ class-check (now file) ≡ 0 ⌝ }
     ensures { λ r. ⌜ r ≡ is-uoperator (now (file .entry)) c ⌝ }
 {
-    ASCII_LIMIT <= c && is_sm(file, c)
+    if c < ASCII_LIMIT {
+        return false;
+    }
+    is_sm(file, c)
 }

@@ -1,82 +1,87 @@
+use mathlib.Core.Path.{_≡_, sym, _∙_}
+use Rattle.definition.specs.Chars.{is-ident-char}
+use Rattle.classes.specs.Parts.{ascii-ident-char}
+use borrow.Author.Tests.{lt-ltb, le-ltb}
 use native.Mathlib.Omega.{arith}
 use borrow.Author.Needs.{needs}
 use Rattle.classes.proofs.chars.is_ident_char.Statement.{statement}
 use Rattle.classes.proofs.chars.is_ident_char.Tie as tie
 use Rattle.classes.proofs.chars.is_ident_char.Reads as reads
 use Rattle.classes.proofs.chars.is_ident_char.Lts as lts
-use Rattle.classes.proofs.chars.between.Reads as between-reads
-use Rattle.classes.proofs.chars.is_digit.Reads as is-digit-reads
+use Rattle.classes.proofs.chars.is_ascii_ident_char.Reads as is-ascii-ident-char-reads
 use Rattle.classes.proofs.lowercase.is_ll.Reads as is-ll-reads
 use Rattle.classes.proofs.member.is_lm.Reads as is-lm-reads
 use Rattle.classes.proofs.member.is_lo.Reads as is-lo-reads
 use Rattle.classes.proofs.member.is_lu.Reads as is-lu-reads
 
--- src/chars.rt:59:16
-between-requires : tie.Need-between-requires
-between-requires c κs = search needs
+-- src/chars.rt:98:9
+is-ascii-ident-char-requires : tie.Need-is-ascii-ident-char-requires
+is-ascii-ident-char-requires c κs = search needs
 
--- src/chars.rt:59:42
-between-requires-2 : tie.Need-between-requires-2
-between-requires-2 c κs = search needs
-
--- src/chars.rt:59:68
-is-digit-requires : tie.Need-is-digit-requires
-is-digit-requires c κs = search needs
-
--- src/chars.rt:59:88
-cast-if5 : tie.Need-cast-if5
-cast-if5 c = search needs
-
--- src/chars.rt:59:109
-cast-result : tie.Need-cast-result
-cast-result c = search needs
-
--- src/chars.rt:59:9
+-- src/chars.rt:98:9
 returns : tie.Need-returns
-returns c = ?
+unfolding is-ident-char ascii-ident-char
+returns c = rw (is-ident-char, lt-ltb _ _ (c .before .if1 .taken)) (c .is-ascii-ident-char .ensures)
 
--- src/chars.rt:59:9
-returns-2 : tie.Need-returns-2
-returns-2 c = ?
-
--- src/chars.rt:61:5
+-- src/chars.rt:100:8
 is-ll-requires : tie.Need-is-ll-requires
 is-ll-requires c κs = search needs
 
--- src/chars.rt:61:17
+-- src/chars.rt:101:9
+returns-2 : tie.Need-returns-2
+unfolding is-ident-char
+returns-2 c = rw (is-ident-char, le-ltb _ _ (c .before .before .if1 .left), sym (c .before .is-ll .ensures) ∙ c .if2 .taken)
+
+-- src/chars.rt:103:8
 is-lu-requires : tie.Need-is-lu-requires
 is-lu-requires c κs = search needs
 
--- src/chars.rt:61:35
+-- src/chars.rt:104:9
+returns-3 : tie.Need-returns-3
+unfolding is-ident-char
+returns-3 c =
+    let a = c .before .before in
+    rw (is-ident-char, le-ltb _ _ (a .before .before .if1 .left), sym (a .before .is-ll .ensures) ∙ a .if2 .left,
+    sym (c .before .is-lu .ensures) ∙ c .if3 .taken)
+
+-- src/chars.rt:106:8
 is-lo-requires : tie.Need-is-lo-requires
 is-lo-requires c κs = search needs
 
--- src/chars.rt:61:53
+-- src/chars.rt:107:9
+returns-4 : tie.Need-returns-4
+unfolding is-ident-char
+returns-4 c =
+    let b = c .before .before in
+    let a = b .before .before in
+    rw (is-ident-char, le-ltb _ _ (a .before .before .if1 .left), sym (a .before .is-ll .ensures) ∙ a .if2 .left,
+    sym (b .before .is-lu .ensures) ∙ b .if3 .left, sym (c .before .is-lo .ensures) ∙ c .if4 .taken)
+
+-- src/chars.rt:109:5
 is-lm-requires : tie.Need-is-lm-requires
 is-lm-requires c κs = search needs
 
--- src/chars.rt:54:1
-returns-3 : tie.Need-returns-3
-returns-3 c = ?
-
--- src/chars.rt:54:1
-returns-4 : tie.Need-returns-4
-returns-4 c = ?
+-- src/chars.rt:93:1
+returns-5 : tie.Need-returns-5
+unfolding is-ident-char
+returns-5 c =
+    let d = c .before in
+    let b = d .before .before in
+    let a = b .before .before in
+    rw (is-ident-char, le-ltb _ _ (a .before .before .if1 .left), sym (a .before .is-ll .ensures) ∙ a .if2 .left,
+    sym (b .before .is-lu .ensures) ∙ b .if3 .left, sym (d .before .is-lo .ensures) ∙ d .if4 .left) (c .is-lm .ensures)
 
 pub is-ident-char-spec : {M : Type 1} → statement M
 is-ident-char-spec =
     tie.close
     (tie.spec
-    between-requires
-    between-requires-2
-    is-digit-requires
-    cast-if5
-    cast-result
+    is-ascii-ident-char-requires
     returns
-    returns-2
     is-ll-requires
+    returns-2
     is-lu-requires
-    is-lo-requires
-    is-lm-requires
     returns-3
-    returns-4)
+    is-lo-requires
+    returns-4
+    is-lm-requires
+    returns-5)

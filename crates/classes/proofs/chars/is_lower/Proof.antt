@@ -1,3 +1,6 @@
+use mathlib.Core.Path.{_≡_, sym, _∙_}
+use Rattle.definition.specs.Chars.{is-lower}
+use borrow.Author.Tests.{lt-ltb, le-ltb}
 use native.Mathlib.Omega.{arith}
 use borrow.Author.Needs.{needs}
 use Rattle.classes.proofs.chars.is_lower.Statement.{statement}
@@ -7,21 +10,23 @@ use Rattle.classes.proofs.chars.is_lower.Lts as lts
 use Rattle.classes.proofs.chars.between.Reads as between-reads
 use Rattle.classes.proofs.lowercase.is_ll.Reads as is-ll-reads
 
--- src/chars.rt:33:9
+-- src/chars.rt:44:9
 between-requires : tie.Need-between-requires
 between-requires c κs = search needs
 
--- src/chars.rt:33:9
+-- src/chars.rt:44:9
 returns : tie.Need-returns
-returns c = ?
+unfolding is-lower
+returns c = rw (is-lower, lt-ltb _ _ (c .before .if1 .taken)) (c .between .ensures)
 
--- src/chars.rt:35:5
+-- src/chars.rt:46:5
 is-ll-requires : tie.Need-is-ll-requires
 is-ll-requires c κs = search needs
 
--- src/chars.rt:29:1
+-- src/chars.rt:40:1
 returns-2 : tie.Need-returns-2
-returns-2 c = ?
+unfolding is-lower
+returns-2 c = rw (is-lower, le-ltb _ _ (c .before .if1 .left)) (c .is-ll .ensures)
 
 pub is-lower-spec : {M : Type 1} → statement M
 is-lower-spec = tie.close (tie.spec between-requires returns is-ll-requires returns-2)
