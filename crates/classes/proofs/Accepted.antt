@@ -196,14 +196,14 @@ pub accepted : (f : Bytes) → class-check f ≡ 0 → Accepted f
 accepted f e =
     by-order (length f) 48 (λ h. absurd (omega (arith, check-short f h)))
     (λ h.
-      by-order 65536 (length f) (λ l. absurd (omega (arith, check-long f h l)))
-      (λ l.
-        by-test (λ t. Accepted f) (laid-out f)
-        (λ o.
-          by-test (λ t. Accepted f) (ranges-right f 6)
-          (λ r. all-right h l o r)
-          (λ r. absurd (omega (arith, check-ranges f h l o r))))
-        (λ o. absurd (omega (arith, check-layout f h l o)))))
+    by-order 65536 (length f) (λ l. absurd (omega (arith, check-long f h l)))
+    (λ l.
+    by-test (λ t. Accepted f) (laid-out f)
+    (λ o.
+    by-test (λ t. Accepted f) (ranges-right f 6)
+    (λ r. all-right h l o r)
+    (λ r. absurd (omega (arith, check-ranges f h l o r))))
+    (λ o. absurd (omega (arith, check-layout f h l o)))))
   where
     all-right : 48 ≤ length f → length f ≤ 65536 → laid-out f ≡ true → ranges-right f 6 ≡ true → Accepted f
     all-right h l o r = record {

@@ -47,9 +47,9 @@ module _ (table : List Bool) (l : List ℕ) (b : ℕ) (f : Filled table l) where
   filled-set h = record {
     size = length-set table b true ∙ f .size;
     entry = λ c q.
-      by-test (λ t. getD (set table b true) c false ≡ mem-cp c (l ++ b ∷ [])) (eqb b c)
-      (λ e. same c e (eqb-true b c e))
-      (λ e. getD-set-other table b c true false (λ n. eqb-false b c e (sym n)) ∙ f .entry c q ∙ sym (mem-other c b l e));
+        by-test (λ t. getD (set table b true) c false ≡ mem-cp c (l ++ b ∷ [])) (eqb b c)
+        (λ e. same c e (eqb-true b c e))
+        (λ e. getD-set-other table b c true false (λ n. eqb-false b c e (sym n)) ∙ f .entry c q ∙ sym (mem-other c b l e));
   }
     where
       same : (c : ℕ) → eqb b c ≡ true → b ≡ c → getD (set table b true) c false ≡ mem-cp c (l ++ b ∷ [])

@@ -33,12 +33,12 @@ unfolding ascending
 ascending-step n r rs =
     by-test (λ t. elim (t && (leb (r .0) (r .1) && leb (r .1) 1114111)) [ true ↦ ascending (suc (r .1)) rs | false ↦ false ] ≡ true → Step n r rs) (leb n (r .0))
     (λ p.
-      by-test (λ t. elim (t && leb (r .1) 1114111) [ true ↦ ascending (suc (r .1)) rs | false ↦ false ] ≡ true → Step n r rs) (leb (r .0) (r .1))
-      (λ q.
-        by-test (λ t. elim t [ true ↦ ascending (suc (r .1)) rs | false ↦ false ] ≡ true → Step n r rs) (leb (r .1) 1114111)
-        (λ l e. record { on = leb-true n (r .0) p; whole = leb-true (r .0) (r .1) q; legal = leb-true (r .1) 1114111 l; rest = e })
-        (λ l e. never e))
-      (λ q e. never e))
+    by-test (λ t. elim (t && leb (r .1) 1114111) [ true ↦ ascending (suc (r .1)) rs | false ↦ false ] ≡ true → Step n r rs) (leb (r .0) (r .1))
+    (λ q.
+    by-test (λ t. elim t [ true ↦ ascending (suc (r .1)) rs | false ↦ false ] ≡ true → Step n r rs) (leb (r .1) 1114111)
+    (λ l e. record { on = leb-true n (r .0) p; whole = leb-true (r .0) (r .1) q; legal = leb-true (r .1) 1114111 l; rest = e })
+    (λ l e. never e))
+    (λ q e. never e))
     (λ p e. never e)
 
 -- a list whose first range takes no such step does not ascend
@@ -114,8 +114,8 @@ unfolding range-from
 holds-from n [] c i = λ e. absurd (let z : _≡_ {A = ℕ} 0 1 = cc in omega arith)
 holds-from n (r ∷ rs) c i =
     let later : range-from (suc n) rs c ≡ At i → (k : ℕ) × ((i ≡ n + k) × Holds (r ∷ rs) c k) = λ e.
-      let w = holds-from (suc n) rs c i e in
-      (suc (w .0), (omega (arith, w .1 .0), record { there = suc-le-suc (w .1 .1 .there); from = w .1 .1 .from; to = w .1 .1 .to })) in
+    let w = holds-from (suc n) rs c i e in
+    (suc (w .0), (omega (arith, w .1 .0), record { there = suc-le-suc (w .1 .1 .there); from = w .1 .1 .from; to = w .1 .1 .to })) in
     between-cases (r .0) (r .1) c
     (λ t. elim t [ true ↦ At n | false ↦ range-from (suc n) rs c ] ≡ At i → (k : ℕ) × ((i ≡ n + k) × Holds (r ∷ rs) c k))
     (λ p q e. let z : n ≡ i = cc in (0, (omega arith, record { there = suc-le-suc zero-le; from = p; to = q })))
@@ -205,9 +205,9 @@ pub narrow-none : (rs : List Range) (c low high : ℕ) → Narrowed rs c low hig
 narrow-none rs c low high w h =
     none-found rs c
     (λ i k.
-      by-order i low
-      (λ l. omega (arith, w .before i l, k .to))
-      (λ l. omega (arith, w .after i (le-trans h l) (k .there), k .from)))
+    by-order i low
+    (λ l. omega (arith, w .before i l, k .to))
+    (λ l. omega (arith, w .after i (le-trans h l) (k .there), k .from)))
 
 module _ {c low high : ℕ} {rs : List Range} (up : ascending 0 rs ≡ true) (w : Narrowed rs c low high) (mid : ℕ) (l : low ≤ mid) (h : mid < high) where
   -- a range that begins above c, and all after it, can't hold c
@@ -217,9 +217,9 @@ module _ {c low high : ℕ} {rs : List Range} (up : ascending 0 rs ≡ true) (w 
     within = omega (arith, w .within);
     before = w .before;
     after = λ i q t.
-      ⊎-elim (λ e. rw e at p)
-      (λ m. omega (arith, apart 0 rs up mid i m t, each-legal 0 rs up mid (omega (arith, w .within)) .whole))
-      (eq-or-lt-of-le q);
+        ⊎-elim (λ e. rw e at p)
+        (λ m. omega (arith, apart 0 rs up mid i m t, each-legal 0 rs up mid (omega (arith, w .within)) .whole))
+        (eq-or-lt-of-le q);
   }
 
   -- nor can a range that ends below c, and all before it
@@ -228,9 +228,9 @@ module _ {c low high : ℕ} {rs : List Range} (up : ascending 0 rs ≡ true) (w 
     in-order = omega arith;
     within = w .within;
     before = λ i q.
-      ⊎-elim (λ e. rw e p)
-      (λ m. omega (arith, apart 0 rs up i mid m (omega (arith, w .within)), each-legal 0 rs up mid (omega (arith, w .within)) .whole))
-      (eq-or-lt-of-le (le-of-suc-le-suc (rw add-one at q)));
+        ⊎-elim (λ e. rw e p)
+        (λ m. omega (arith, apart 0 rs up i mid m (omega (arith, w .within)), each-legal 0 rs up mid (omega (arith, w .within)) .whole))
+        (eq-or-lt-of-le (le-of-suc-le-suc (rw add-one at q)));
     after = w .after;
   }
 

@@ -1,7 +1,12 @@
 // The tests on characters, in the source's order. An ASCII character is never looked up in a class.
 use crate::ascii::ASCII_LIMIT;
 use crate::lowercase::is_ll;
-use crate::member::{is_lm, is_lo, is_lt, is_lu, is_sm, is_zs};
+use crate::member::is_lm;
+use crate::member::is_lo;
+use crate::member::is_lt;
+use crate::member::is_lu;
+use crate::member::is_sm;
+use crate::member::is_zs;
 ghost use mathlib.Core.Path.{_≡_};
 ghost use Rattle.definition.specs.Basics.{between as between-codes};
 ghost use Rattle.definition.specs.ClassFile.{class-check};

@@ -1,5 +1,7 @@
 // Membership in a class of a file that the class check accepted, by binary search.
-use crate::check::{class_count, class_start, number_at};
+use crate::check::class_count;
+use crate::check::class_start;
+use crate::check::number_at;
 ghost use mathlib.Core.Path.{_≡_};
 ghost use Prim.Native.Nat.{_<_};
 ghost use Rattle.definition.specs.ClassFile.{class-check, ranges-of, in-ranges, is-lu, is-lt, is-lo, is-lm, is-zs, is-sm};

@@ -40,8 +40,12 @@ unfolding ascii-ident-char
 returns-3 c =
     let b = c .before .before in
     let a = b .before .before in
-    rw (ascii-ident-char, sym (a .before .between .ensures) ∙ a .if1 .left, sym (b .before .between2 .ensures) ∙ b .if2 .left,
-    sym (c .before .is-digit .ensures) ∙ c .if3 .taken)
+    rw (
+      ascii-ident-char,
+      sym (a .before .between .ensures) ∙ a .if1 .left,
+      sym (b .before .between2 .ensures) ∙ b .if2 .left,
+      sym (c .before .is-digit .ensures) ∙ c .if3 .taken,
+    )
 
 -- src/chars.rt:88:9
 returns-4 : tie.Need-returns-4
@@ -50,8 +54,13 @@ returns-4 c =
     let d = c .before in
     let b = d .before .before in
     let a = b .before .before in
-    rw (ascii-ident-char, sym (a .before .between .ensures) ∙ a .if1 .left, sym (b .before .between2 .ensures) ∙ b .if2 .left,
-    sym (d .before .is-digit .ensures) ∙ d .if3 .left, eq-eqb _ _ (c .if4 .taken))
+    rw (
+      ascii-ident-char,
+      sym (a .before .between .ensures) ∙ a .if1 .left,
+      sym (b .before .between2 .ensures) ∙ b .if2 .left,
+      sym (d .before .is-digit .ensures) ∙ d .if3 .left,
+      eq-eqb _ _ (c .if4 .taken),
+    )
 
 -- src/chars.rt:75:1
 returns-5 : tie.Need-returns-5
@@ -60,8 +69,13 @@ returns-5 c =
     let d = c .before in
     let b = d .before .before in
     let a = b .before .before in
-    rw (ascii-ident-char, sym (a .before .between .ensures) ∙ a .if1 .left, sym (b .before .between2 .ensures) ∙ b .if2 .left,
-    sym (d .before .is-digit .ensures) ∙ d .if3 .left, ne-eqb _ _ (c .if4 .left))
+    rw (
+      ascii-ident-char,
+      sym (a .before .between .ensures) ∙ a .if1 .left,
+      sym (b .before .between2 .ensures) ∙ b .if2 .left,
+      sym (d .before .is-digit .ensures) ∙ d .if3 .left,
+      ne-eqb _ _ (c .if4 .left),
+    )
 
 pub is-ascii-ident-char-spec : {M : Type 1} → statement M
 is-ascii-ident-char-spec =

@@ -41,8 +41,12 @@ returns-3 : tie.Need-returns-3
 unfolding is-ident-char
 returns-3 c =
     let a = c .before .before in
-    rw (is-ident-char, le-ltb _ _ (a .before .before .if1 .left), sym (a .before .is-ll .ensures) ∙ a .if2 .left,
-    sym (c .before .is-lu .ensures) ∙ c .if3 .taken)
+    rw (
+      is-ident-char,
+      le-ltb _ _ (a .before .before .if1 .left),
+      sym (a .before .is-ll .ensures) ∙ a .if2 .left,
+      sym (c .before .is-lu .ensures) ∙ c .if3 .taken,
+    )
 
 -- src/chars.rt:106:8
 is-lo-requires : tie.Need-is-lo-requires
@@ -54,8 +58,13 @@ unfolding is-ident-char
 returns-4 c =
     let b = c .before .before in
     let a = b .before .before in
-    rw (is-ident-char, le-ltb _ _ (a .before .before .if1 .left), sym (a .before .is-ll .ensures) ∙ a .if2 .left,
-    sym (b .before .is-lu .ensures) ∙ b .if3 .left, sym (c .before .is-lo .ensures) ∙ c .if4 .taken)
+    rw (
+      is-ident-char,
+      le-ltb _ _ (a .before .before .if1 .left),
+      sym (a .before .is-ll .ensures) ∙ a .if2 .left,
+      sym (b .before .is-lu .ensures) ∙ b .if3 .left,
+      sym (c .before .is-lo .ensures) ∙ c .if4 .taken,
+    )
 
 -- src/chars.rt:109:5
 is-lm-requires : tie.Need-is-lm-requires
@@ -68,8 +77,13 @@ returns-5 c =
     let d = c .before in
     let b = d .before .before in
     let a = b .before .before in
-    rw (is-ident-char, le-ltb _ _ (a .before .before .if1 .left), sym (a .before .is-ll .ensures) ∙ a .if2 .left,
-    sym (b .before .is-lu .ensures) ∙ b .if3 .left, sym (d .before .is-lo .ensures) ∙ d .if4 .left) (c .is-lm .ensures)
+    rw (
+      is-ident-char,
+      le-ltb _ _ (a .before .before .if1 .left),
+      sym (a .before .is-ll .ensures) ∙ a .if2 .left,
+      sym (b .before .is-lu .ensures) ∙ b .if3 .left,
+      sym (d .before .is-lo .ensures) ∙ d .if4 .left,
+    ) (c .is-lm .ensures)
 
 pub is-ident-char-spec : {M : Type 1} → statement M
 is-ident-char-spec =
