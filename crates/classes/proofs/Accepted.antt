@@ -1,17 +1,16 @@
 -- What a class file says where its bytes stand: the layout's laws, the ranges of a class read by their index, and what
 -- the class check's acceptance gives. Rests on the definition's `laid-out` and `class-check`. Assumes nothing.
-use Prim.Native.Nat.{ℕ, zero, suc, _+_, _-_, _*_, _/_, _≤_, _<_, zero-le, suc-le-suc}
-use mathlib.Core.Path.{_≡_, refl, sym, ap, subst, _∙_}
-use mathlib.Core.Bool.{Bool, true, false, _&&_, _||_}
-use mathlib.Core.List.{List, [], _∷_}
+use Prim.Native.Nat.{ℕ, zero, suc, _+_, _-_, _*_, _/_, _≤_, _<_, zero-le}
+use mathlib.Core.Path.{_≡_, refl, sym, ap, _∙_}
+use mathlib.Core.Bool.{Bool, true, false, _&&_}
 use mathlib.Core.Logic.{⊎-elim}
 use native.Mathlib.Omega.{arith}
-use native.Mathlib.Nat.{le-of-suc-le-suc, not-suc-le-zero, le-refl, le-trans, eq-or-lt-of-le}
+use native.Mathlib.Nat.{le-of-suc-le-suc, not-suc-le-zero, le-refl, eq-or-lt-of-le}
 use native.Mathlib.Numerals.{add-one}
-use lib.Dec.{T, leb, ltb, eqb}
+use lib.Dec.{eqb}
 use lib.ListN.{length, getD, drop}
-use lib.Seq.{drop-drop, getD-drop}
-use borrow.Author.Tests.{eqb-true, ltb-false, le-ltb, lt-ltb, eq-eqb, ne-eqb}
+use lib.Seq.{drop-drop}
+use borrow.Author.Tests.{eqb-true, le-ltb, lt-ltb, eq-eqb, ne-eqb}
 use Rattle.definition.specs.Basics.{Bytes}
 use Rattle.definition.specs.ClassFile.{Range, little-endian, class-count, class-offset, counts-before, place-of, read-ranges, ranges-of, bad-class-length, offsets-right, laid-out, ascending, ranges-right, class-check}
 use Rattle.classes.specs.Search.{first-at, last-at}
@@ -38,12 +37,17 @@ place-rises f j (suc k) h =
     (λ l. omega (arith, place-rises f j k (le-of-suc-le-suc l), place-next f k))
     (eq-or-lt-of-le h)
 
+-- every class begins after the header
+pub place-after-header : (f : Bytes) (k : ℕ) → 48 ≤ place-of f k
+place-after-header f k = omega (arith, place-first f, place-rises f 0 k zero-le)
+
 -- ---- the layout
 
 -- the offset of class k is right
 abbrev offset-test : Bytes → ℕ → Bool
 offset-test f k = eqb (class-offset f k) (place-of f k)
 
+-- the test of the offsets asks each class in turn, the last first
 offsets-step : (f : Bytes) (k : ℕ) → offsets-right f (suc k) ≡ elim (offset-test f k) [ true ↦ offsets-right f k | false ↦ false ]
 unfolding offsets-right
 offsets-step f k = refl
@@ -55,6 +59,7 @@ pub record Placed (f : Bytes) (k place : ℕ) : Type 0 where
   pub right : offsets-right f k ≡ true
   pub bounded : place ≤ 48 + 34359738368 * k
 
+-- before the first class there is nothing to test
 pub placed-start : (f : Bytes) → Placed f 0 48
 unfolding offsets-right
 placed-start f = record { classes = zero-le; placed = sym (place-first f); right = refl; bounded = le-refl 48 }
@@ -88,6 +93,7 @@ pub record Laid (f : Bytes) : Type 0 where
   pub offset : (k : ℕ) → k < 6 → class-offset f k ≡ place-of f k
   pub whole : length f ≡ place-of f 6
 
+-- the definition's test says so
 pub laid : (f : Bytes) → laid-out f ≡ true → Laid f
 unfolding laid-out
 laid f =
@@ -100,21 +106,19 @@ module _ (f : Bytes) (l : Laid f) where
   pub class-within : (k : ℕ) → k < 6 → place-of f k + 8 * class-count f k ≤ length f
   class-within k h = omega (arith, place-next f k, place-rises f (suc k) 6 h, l .whole)
 
-  -- and after its header
-  pub class-after-header : (k : ℕ) → 48 ≤ place-of f k
-  class-after-header k = omega (arith, place-first f, place-rises f 0 k zero-le)
-
+  -- and so does the header
   pub header-within : 48 ≤ length f
-  header-within = omega (arith, class-after-header 6, l .whole)
+  header-within = omega (arith, place-after-header f 6, l .whole)
 
 -- ---- the ranges of a class, by their index
 
+-- as many ranges are read as are asked for
 pub length-read : (n : ℕ) (l : Bytes) → length (read-ranges n l) ≡ n
 unfolding read-ranges
 length-read zero l = refl
 length-read (suc n) l = ap suc (length-read n (drop 8 l))
 
--- there are as many as the header counts
+-- a class has as many ranges as the header counts
 pub length-ranges : (f : Bytes) (k : ℕ) → length (ranges-of f k) ≡ class-count f k
 unfolding ranges-of
 length-ranges f k = length-read (class-count f k) (drop (place-of f k) f)
@@ -129,15 +133,18 @@ read-at (suc n) l (suc i) h =
     let q : 8 + (8 * i + 4) ≡ 8 * suc i + 4 = omega arith in
     rw (drop-drop (8 * i) 8 l, drop-drop (8 * i + 4) 8 l, e, q) at (read-at n (drop 8 l) i (le-of-suc-le-suc h))
 
--- what code reads at the places of range i of class k, which begins at start, are its first and last code point
+-- class k begins at start and has more than i ranges
 module _ (f : Bytes) (k i start count n : ℕ) (from : start ≡ place-of f k) (counted : count ≡ class-count f k) (h : i < count) where
+  -- range i stands 8 * i bytes after the class's start
   range-read : getD (ranges-of f k) i (0, 0) ≡ (little-endian (drop (8 * i) (drop start f)), little-endian (drop (8 * i + 4) (drop start f)))
   unfolding ranges-of
   range-read = rw from (read-at (class-count f k) (drop (place-of f k) f) i (rw counted at h))
 
+  -- a number that is read there is its first code point
   pub first-read : n ≡ little-endian (drop (start + 8 * i) f) → n ≡ first-at (ranges-of f k) i
   first-read e = e ∙ sym (ap (λ (r : Range). r .0) range-read ∙ ap little-endian (drop-drop (8 * i) start f))
 
+  -- a number that is read 4 bytes later is its last
   pub last-read : n ≡ little-endian (drop (start + 8 * i + 4) f) → n ≡ last-at (ranges-of f k) i
   last-read e =
       let q : start + (8 * i + 4) ≡ start + 8 * i + 4 = omega arith in
@@ -145,21 +152,25 @@ module _ (f : Bytes) (k i start count n : ℕ) (from : start ≡ place-of f k) (
 
 -- ---- the class check
 
+-- the test of the ranges asks each class in turn, the last first
 ranges-step : (f : Bytes) (k : ℕ) → ranges-right f (suc k) ≡ elim (ascending 0 (ranges-of f k)) [ true ↦ ranges-right f k | false ↦ false ]
 unfolding ranges-right
 ranges-step f k = refl
 
+-- before the first class there is nothing to test
 pub ranges-start : (f : Bytes) → ranges-right f 0 ≡ true
 unfolding ranges-right
 ranges-start f = refl
 
+-- a class that ascends moves on to the next
 pub ranges-more : (f : Bytes) (k : ℕ) → ranges-right f k ≡ true → ascending 0 (ranges-of f k) ≡ true → ranges-right f (k + 1) ≡ true
 ranges-more f = all-more (λ k. ascending 0 (ranges-of f k)) (ranges-right f) (ranges-step f)
 
+-- one that does not ends the test
 pub ranges-fail : (f : Bytes) (k : ℕ) → k < 6 → ascending 0 (ranges-of f k) ≡ false → ranges-right f 6 ≡ false
 ranges-fail f k = all-fails (λ k. ascending 0 (ranges-of f k)) (ranges-right f) (ranges-step f) 6 k
 
--- each arm of the check
+-- the arms of the check, each from the tests that lead to it
 module _ (f : Bytes) where
   pub check-short : length f < 48 → class-check f ≡ 3
   unfolding class-check bad-class-length
@@ -182,7 +193,8 @@ module _ (f : Bytes) where
     unfolding class-check bad-class-length
     check-passes o r = rw (class-check, bad-class-length, le-ltb (length f) 48 h, le-ltb 65536 (length f) l, o, r)
 
--- what acceptance gives of each class k
+-- what acceptance gives: of each class k, that its offset in the header is its place, its ranges lie within the file,
+-- there are no more of them than the file has room for, and they ascend
 pub record Accepted (f : Bytes) : Type 0 where
   pub laid-right : laid-out f ≡ true
   pub long : 48 ≤ length f
@@ -192,6 +204,7 @@ pub record Accepted (f : Bytes) : Type 0 where
   pub few : (k : ℕ) → k < 6 → class-count f k ≤ (length f - 48) / 8
   pub ascends : (k : ℕ) → k < 6 → ascending 0 (ranges-of f k) ≡ true
 
+-- the check's 0 gives it
 pub accepted : (f : Bytes) → class-check f ≡ 0 → Accepted f
 accepted f e =
     by-order (length f) 48 (λ h. absurd (omega (arith, check-short f h)))
@@ -212,6 +225,6 @@ accepted f e =
       short = l;
       offset = laid f o .offset;
       within = class-within f (laid f o);
-      few = λ k q. omega (arith, class-within f (laid f o) k q, class-after-header f (laid f o) k);
+      few = λ k q. omega (arith, class-within f (laid f o) k q, place-after-header f k);
       ascends = all-each (λ k. ascending 0 (ranges-of f k)) (ranges-right f) (ranges-step f) 6 r;
     }

@@ -5,12 +5,12 @@ use mathlib.Core.Path.{_≡_, refl, sym, ap, _∙_}
 use mathlib.Core.Bool.{Bool, true, false}
 use mathlib.Core.List.{List, [], _∷_, _++_, map}
 use native.Mathlib.Omega.{arith}
-use native.Mathlib.Nat.{le-of-suc-le-suc, not-suc-le-zero, add-zero, add-suc, suc-add, zero-add}
+use native.Mathlib.Nat.{le-of-suc-le-suc, not-suc-le-zero, add-zero, zero-add}
 use native.Mathlib.Numerals.{add-one}
 use lib.Dec.{eqb}
-use lib.ListN.{length, getD, set, take, replicate, getD-replicate, length-set, length-map}
+use lib.ListN.{length, getD, set, take, replicate, getD-replicate, length-set}
 use lib.Seq.{ext-getD, getD-set-same, getD-set-other, take-suc}
-use borrow.Author.Tests.{eqb-true, eqb-false, eq-eqb, ne-eqb}
+use borrow.Author.Tests.{eqb-true, eqb-false, ne-eqb}
 use Rattle.definition.specs.Basics.{mem-cp}
 use Rattle.definition.specs.Chars.{count-up, ascii-table}
 use Rattle.classes.proofs.Tests.{by-test}
@@ -76,6 +76,7 @@ pub ascii-entry : (l : List ℕ) (c : ℕ) → c < 128 → getD (ascii-table l) 
 unfolding ascii-table
 ascii-entry l c h = counted (λ d. mem-cp d l) 0 128 c h ∙ ap (λ (d : ℕ). mem-cp d l) (zero-add c)
 
+-- it has 128 entries
 pub ascii-size : (l : List ℕ) → length (ascii-table l) ≡ 128
 unfolding ascii-table count-up
 ascii-size l = refl

@@ -2,7 +2,7 @@
 -- flat form has the ranges' numbers in pairs. Rests on the definition's `ll-tbl`, which is the source's text decoded.
 -- Assumes nothing.
 use Prim.Native.Nat.{ℕ, zero, suc, _+_, _*_}
-use mathlib.Core.Path.{_≡_, refl, _∙_}
+use mathlib.Core.Path.{_≡_, refl}
 use mathlib.Core.Bool.{true}
 use mathlib.Core.List.{List, [], _∷_}
 use native.Mathlib.Omega.{arith}
@@ -16,11 +16,12 @@ pub ll-ascends : ascending 0 ll-tbl ≡ true
 unfolding ascending ll-tbl
 ll-ascends = refl
 
+-- the table has 664 ranges
 pub ll-ranges-count : length ll-tbl ≡ 664
 unfolding ll-tbl
 ll-ranges-count = refl
 
--- the numbers of range i stand at 2 * i and after it
+-- in a flat table the first code point of range i stands at 2 * i
 pub flat-first : (rs : List Range) (i : ℕ) → getD (flat rs) (2 * i) 0 ≡ first-at rs i
 unfolding flat
 flat-first [] i = refl
@@ -29,6 +30,7 @@ flat-first ((a, b) ∷ rs) (suc i) =
     let e : 2 * suc i ≡ suc (suc (2 * i)) = omega arith in
     rw e (flat-first rs i)
 
+-- and its last after that
 pub flat-last : (rs : List Range) (i : ℕ) → getD (flat rs) (2 * i + 1) 0 ≡ last-at rs i
 unfolding flat
 flat-last [] i = refl

@@ -2,23 +2,22 @@
 -- that can hold the code point. It is stated over any list, so the classes of a file and the built-in table share it.
 -- Rests on the test `ascending` of the definition. Assumes nothing.
 use Prim.Native.Nat.{ℕ, zero, suc, _+_, _≤_, _<_, zero-le, suc-le-suc}
-use mathlib.Core.Path.{_≡_, refl, sym, ap, _∙_}
-use mathlib.Core.Bool.{Bool, true, false, _&&_}
+use mathlib.Core.Path.{_≡_, refl, ap, _∙_}
+use mathlib.Core.Bool.{true, false, _&&_}
 use mathlib.Core.List.{List, [], _∷_}
-use native.Mathlib.Omega.{arith}
-use native.Mathlib.Nat.{le-of-suc-le-suc, not-suc-le-zero, le-refl, le-trans, zero-add, add-zero, eq-or-lt-of-le}
-use native.Mathlib.Numerals.{add-one}
 use mathlib.Core.Logic.{⊎-elim}
+use native.Mathlib.Omega.{arith}
+use native.Mathlib.Nat.{le-of-suc-le-suc, not-suc-le-zero, le-trans, zero-add, add-zero, eq-or-lt-of-le}
+use native.Mathlib.Numerals.{add-one}
 use lib.Dec.{leb}
 use lib.ListN.{length, getD, drop, drop-of-length-le}
 use lib.Seq.{drop-cons}
 use borrow.Author.Tests.{leb-true, le-leb}
 use Rattle.definition.specs.Basics.{between}
 use Rattle.definition.specs.ClassFile.{Range, in-ranges, ascending}
-use Rattle.classes.specs.declared.member.Found.{Found}
 use Rattle.classes.specs.declared.member.Found.the-variants.{At, Nothing}
 use Rattle.classes.specs.Search.{first-at, last-at, Holds, range-from, range-of, is-found}
-use Rattle.classes.proofs.Tests.{never, by-test, by-order, between-yes, between-below, between-above, between-cases}
+use Rattle.classes.proofs.Tests.{never, by-test, by-order, between-yes, between-above, between-cases}
 
 -- what the test says of the first range of a list, and of the rest
 pub record Step (n : ℕ) (r : Range) (rs : List Range) : Type 0 where
@@ -81,12 +80,13 @@ ascending-end n rs i h = rw (drop-of-length-le rs h)
 
 -- ---- what an ascending list says of its ranges
 
--- the ranges of such a list begin at n or later and are legal
+-- range i begins at n or later, is no empty range and ends at a code point
 pub record Legal (n : ℕ) (rs : List Range) (i : ℕ) : Type 0 where
   pub on : n ≤ first-at rs i
   pub whole : first-at rs i ≤ last-at rs i
   pub legal : last-at rs i ≤ 1114111
 
+-- each range of an ascending list is so
 pub each-legal : (n : ℕ) (rs : List Range) → ascending n rs ≡ true → (i : ℕ) → i < length rs → Legal n rs i
 each-legal n [] up i h = absurd (not-suc-le-zero h)
 each-legal n (r ∷ rs) up zero h =
@@ -139,6 +139,7 @@ from-in-ranges n (r ∷ rs) c =
     (λ e. refl)
     (λ e. from-in-ranges (suc n) rs c)
 
+-- and so of the whole list
 pub found-in-ranges : (rs : List Range) (c : ℕ) → is-found (range-of rs c) ≡ in-ranges rs c
 unfolding range-of
 found-in-ranges rs c = from-in-ranges 0 rs c
@@ -154,6 +155,7 @@ none-from n (r ∷ rs) c no-range =
     (λ p. later)
     (λ p. later)
 
+-- and so of the whole list
 pub none-found : (rs : List Range) (c : ℕ) → ((i : ℕ) → Holds rs c i → ⊥) → range-of rs c ≡ Nothing
 unfolding range-of
 none-found rs c no-range = none-from 0 rs c no-range
@@ -181,6 +183,13 @@ module _ {rs : List Range} (up : ascending 0 rs ≡ true) where
   -- no two ranges hold the same code point
   pub only-range : (c i j : ℕ) → Holds rs c i → Holds rs c j → i ≡ j
   only-range c i j h k = let p = found-only c i h in let q = found-only c j k in cc
+
+  -- where nothing is answered no range holds c
+  pub none-holds : (c i : ℕ) → range-of rs c ≡ Nothing → Holds rs c i → ⊥
+  none-holds c i e h =
+      let p = found-only c i h in
+      let z : _≡_ {A = ℕ} 0 1 = cc in
+      omega arith
 
 -- ---- the search
 

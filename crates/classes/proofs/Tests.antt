@@ -1,14 +1,15 @@
 -- What a test says of numbers, for definitions that choose by one. Rests on the comparisons' own laws. Assumes nothing.
 use Prim.Native.Nat.{ℕ, zero, suc, _+_, _≤_, _<_}
 use mathlib.Core.Path.{_≡_, refl, sym, subst, _∙_}
-use mathlib.Core.Bool.{Bool, true, false, _&&_, _||_}
+use mathlib.Core.Bool.{Bool, true, false, _&&_}
 use mathlib.Core.Logic.{⊎-elim}
 use native.Mathlib.Nat.{le-of-suc-le-suc, not-suc-le-zero, eq-or-lt-of-le}
 use native.Mathlib.Numerals.{add-one}
-use lib.Dec.{T, leb, ltb, eqb}
+use lib.Dec.{T, leb, ltb}
 use borrow.Author.Tests.{lt-ltb, le-ltb, le-leb, lt-leb, eq-eqb, ne-eqb, leb-true, leb-false, ltb-true, ltb-false}
 use Rattle.definition.specs.Basics.{between}
 
+-- what a comparison gives, for each outcome
 pub ruleset tests = (lt-ltb, le-ltb, le-leb, lt-leb, eq-eqb, ne-eqb)
 
 -- what holds where a test is true, and where it is false, holds of the test
@@ -29,11 +30,7 @@ module _ (a b c : ℕ) where
   pub between-yes : a ≤ c → c ≤ b → between a b c ≡ true
   between-yes p q = simp (le-leb a c p, le-leb c b q)
 
-  -- a number below a range doesn't
-  pub between-below : c < a → between a b c ≡ false
-  between-below p = simp (lt-leb a c p)
-
-  -- nor does one above it
+  -- one above it doesn't
   pub between-above : b < c → between a b c ≡ false
   between-above p = by-test (λ t. (t && leb c b) ≡ false) (leb a c) (λ e. lt-leb c b p) (λ e. refl)
 

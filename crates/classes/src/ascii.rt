@@ -2,7 +2,7 @@
 ghost use mathlib.Core.Path.{_≡_};
 ghost use Rattle.definition.specs.Chars.{ascii-table, in-table, op-char-cps, symbolchar-cps, is-op-char, is-symbolchar};
 
-pub const ASCII_LIMIT: u32 = 128;
+pub(crate) const ASCII_LIMIT: u32 = 128;
 
 // Entry c says whether the character c is among `chars`; one of 128 or more has no entry.
 pub fn ascii_table(chars: &[u8]) -> [bool; 128]

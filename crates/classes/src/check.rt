@@ -5,7 +5,7 @@ ghost use Prim.Native.Nat.{_+_, _*_, _≤_, _<_};
 ghost use lib.ListN.{length, drop};
 ghost use Rattle.definition.specs.ClassFile.{little-endian, class-count, place-of, ranges-of, laid-out, ascending, ranges-right, class-check};
 
-pub const CLASSES: usize = 6;
+const CLASSES: usize = 6;
 
 // The length of the header: a count and an offset for each class, of 4 bytes each.
 const HEADER: usize = 48;
@@ -15,7 +15,7 @@ const LONGEST_FILE: usize = 65536;
 const LAST_CODE_POINT: u32 = 1114111;
 
 // The number that the four bytes from `at` on spell, the least first.
-pub fn number_at(file: &[u8], at: usize) -> u32
+pub(crate) fn number_at(file: &[u8], at: usize) -> u32
     requires { ⌜ at + 4 ≤ length (now file) ⌝ }
     ensures { λ r. ⌜ r ≡ little-endian (drop at (now (file .entry))) ⌝ }
 {
@@ -24,7 +24,7 @@ pub fn number_at(file: &[u8], at: usize) -> u32
 }
 
 // How many ranges class k has.
-pub fn class_count(file: &[u8], k: usize) -> usize
+pub(crate) fn class_count(file: &[u8], k: usize) -> usize
     requires { ⌜ (laid-out (now file) ≡ true) × (k < 6) ⌝ }
     ensures { λ r. ⌜ r ≡ class-count (now (file .entry)) k ⌝ }
 {
@@ -32,7 +32,7 @@ pub fn class_count(file: &[u8], k: usize) -> usize
 }
 
 // Where the ranges of class k begin.
-pub fn class_start(file: &[u8], k: usize) -> usize
+pub(crate) fn class_start(file: &[u8], k: usize) -> usize
     requires { ⌜ (laid-out (now file) ≡ true) × (k < 6) ⌝ }
     ensures { λ r. ⌜ r ≡ place-of (now (file .entry)) k ⌝ }
 {

@@ -1,15 +1,15 @@
+-- `ascii_table` meets its contract. The invariant, `Filled`: each entry says whether its character is among the first i.
+-- The measure is the characters left.
 use Prim.Native.Nat.{_-_, _≤_}
-use mathlib.Core.Path.{_≡_, ap, _∙_}
+use mathlib.Core.Path.{ap, _∙_}
+use native.Mathlib.Omega.{arith}
 use lib.ListN.{length, take}
 use lib.Seq.{take-all}
+use borrow.Author.Needs.{needs}
 use Rattle.definition.specs.Chars.{ascii-table}
 use Rattle.classes.proofs.AsciiTables.{Filled, filled-start, filled-next, filled-past, filled-all}
-use native.Mathlib.Omega.{arith}
-use borrow.Author.Needs.{needs}
 use Rattle.classes.proofs.ascii.ascii_table.Statement.{statement}
 use Rattle.classes.proofs.ascii.ascii_table.Tie as tie
-use Rattle.classes.proofs.ascii.ascii_table.Reads as reads
-use Rattle.classes.proofs.ascii.ascii_table.Lts as lts
 
 abbrev Inv-loop : tie.InvT-loop
 Inv-loop chars table₀ i₀ table i = (i ≤ length chars) × Filled table (take i chars)
@@ -17,47 +17,37 @@ Inv-loop chars table₀ i₀ table i = (i ≤ length chars) × Filled table (tak
 abbrev μ-loop : tie.MeasureT-loop
 μ-loop chars table₀ i₀ table i = length chars - i
 
--- src/ascii.rt:13:5
 loop-holds : tie.Need-loop-holds Inv-loop μ-loop
 loop-holds c = (omega arith, filled-start)
 
--- src/ascii.rt:14:17
 shared-slice-read-c : tie.Need-shared-slice-read-c Inv-loop μ-loop
 shared-slice-read-c c = search needs
 
--- src/ascii.rt:14:17
 cast-c : tie.Need-cast-c Inv-loop μ-loop
 cast-c c = omega (arith, c .shared-slice-known .given (c .before .before .loop .i))
 
--- src/ascii.rt:15:9
 add-i : tie.Need-add-i Inv-loop μ-loop
 add-i c = omega arith
 
--- src/ascii.rt:17:13
 array-write-table : tie.Need-array-write-table Inv-loop μ-loop
 array-write-table c = omega (arith, c .before .before .before .loop .inv .1 .size)
 
--- src/ascii.rt:13:5
 loop-less : tie.Need-loop-less Inv-loop μ-loop
 loop-less c = omega arith
 
--- src/ascii.rt:13:5
 loop-again : tie.Need-loop-again Inv-loop μ-loop
 loop-again c =
     let l = c .before .before in
     (omega arith, filled-next _ _ _ (l .before .loop .inv .1) (l .loop-test .taken) (c .if1 .taken))
 
--- src/ascii.rt:13:5
 loop-less-2 : tie.Need-loop-less-2 Inv-loop μ-loop
 loop-less-2 c = omega arith
 
--- src/ascii.rt:13:5
 loop-again-2 : tie.Need-loop-again-2 Inv-loop μ-loop
 loop-again-2 c =
     let l = c .before .before in
     (omega arith, filled-past _ _ _ (l .before .loop .inv .1) (l .loop-test .taken) (c .if1 .left))
 
--- src/ascii.rt:8:1
 returns : tie.Need-returns Inv-loop μ-loop
 returns c =
     let l = c .before .loop in

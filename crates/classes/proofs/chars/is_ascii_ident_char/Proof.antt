@@ -1,40 +1,30 @@
-use mathlib.Core.Path.{_≡_, sym, _∙_}
-use Rattle.classes.specs.Parts.{ascii-ident-char}
+-- `is_ascii_ident_char` meets its contract: each return is an arm of the definition's test.
+use mathlib.Core.Path.{sym, _∙_}
 use borrow.Author.Tests.{eq-eqb, ne-eqb}
-use native.Mathlib.Omega.{arith}
 use borrow.Author.Needs.{needs}
+use Rattle.classes.specs.Parts.{ascii-ident-char}
 use Rattle.classes.proofs.chars.is_ascii_ident_char.Statement.{statement}
 use Rattle.classes.proofs.chars.is_ascii_ident_char.Tie as tie
-use Rattle.classes.proofs.chars.is_ascii_ident_char.Reads as reads
-use Rattle.classes.proofs.chars.is_ascii_ident_char.Lts as lts
-use Rattle.classes.proofs.chars.between.Reads as between-reads
-use Rattle.classes.proofs.chars.is_digit.Reads as is-digit-reads
 
--- src/chars.rt:78:8
 between-requires : tie.Need-between-requires
 between-requires c κs = search needs
 
--- src/chars.rt:79:9
 returns : tie.Need-returns
 unfolding ascii-ident-char
 returns c = rw (ascii-ident-char, sym (c .before .between .ensures) ∙ c .if1 .taken)
 
--- src/chars.rt:81:8
 between-requires-2 : tie.Need-between-requires-2
 between-requires-2 c κs = search needs
 
--- src/chars.rt:82:9
 returns-2 : tie.Need-returns-2
 unfolding ascii-ident-char
 returns-2 c =
     let a = c .before .before in
     rw (ascii-ident-char, sym (a .before .between .ensures) ∙ a .if1 .left, sym (c .before .between2 .ensures) ∙ c .if2 .taken)
 
--- src/chars.rt:84:8
 is-digit-requires : tie.Need-is-digit-requires
 is-digit-requires c κs = search needs
 
--- src/chars.rt:85:9
 returns-3 : tie.Need-returns-3
 unfolding ascii-ident-char
 returns-3 c =
@@ -47,7 +37,6 @@ returns-3 c =
       sym (c .before .is-digit .ensures) ∙ c .if3 .taken,
     )
 
--- src/chars.rt:88:9
 returns-4 : tie.Need-returns-4
 unfolding ascii-ident-char
 returns-4 c =
@@ -62,7 +51,6 @@ returns-4 c =
       eq-eqb _ _ (c .if4 .taken),
     )
 
--- src/chars.rt:75:1
 returns-5 : tie.Need-returns-5
 unfolding ascii-ident-char
 returns-5 c =

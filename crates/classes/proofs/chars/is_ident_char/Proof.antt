@@ -1,42 +1,29 @@
-use mathlib.Core.Path.{_≡_, sym, _∙_}
+-- `is_ident_char` meets its contract: each return is an arm of the definition's test.
+use mathlib.Core.Path.{sym, _∙_}
+use borrow.Author.Tests.{lt-ltb, le-ltb}
+use borrow.Author.Needs.{needs}
 use Rattle.definition.specs.Chars.{is-ident-char}
 use Rattle.classes.specs.Parts.{ascii-ident-char}
-use borrow.Author.Tests.{lt-ltb, le-ltb}
-use native.Mathlib.Omega.{arith}
-use borrow.Author.Needs.{needs}
 use Rattle.classes.proofs.chars.is_ident_char.Statement.{statement}
 use Rattle.classes.proofs.chars.is_ident_char.Tie as tie
-use Rattle.classes.proofs.chars.is_ident_char.Reads as reads
-use Rattle.classes.proofs.chars.is_ident_char.Lts as lts
-use Rattle.classes.proofs.chars.is_ascii_ident_char.Reads as is-ascii-ident-char-reads
-use Rattle.classes.proofs.lowercase.is_ll.Reads as is-ll-reads
-use Rattle.classes.proofs.member.is_lm.Reads as is-lm-reads
-use Rattle.classes.proofs.member.is_lo.Reads as is-lo-reads
-use Rattle.classes.proofs.member.is_lu.Reads as is-lu-reads
 
--- src/chars.rt:98:9
 is-ascii-ident-char-requires : tie.Need-is-ascii-ident-char-requires
 is-ascii-ident-char-requires c κs = search needs
 
--- src/chars.rt:98:9
 returns : tie.Need-returns
 unfolding is-ident-char ascii-ident-char
 returns c = rw (is-ident-char, lt-ltb _ _ (c .before .if1 .taken)) (c .is-ascii-ident-char .ensures)
 
--- src/chars.rt:100:8
 is-ll-requires : tie.Need-is-ll-requires
 is-ll-requires c κs = search needs
 
--- src/chars.rt:101:9
 returns-2 : tie.Need-returns-2
 unfolding is-ident-char
 returns-2 c = rw (is-ident-char, le-ltb _ _ (c .before .before .if1 .left), sym (c .before .is-ll .ensures) ∙ c .if2 .taken)
 
--- src/chars.rt:103:8
 is-lu-requires : tie.Need-is-lu-requires
 is-lu-requires c κs = search needs
 
--- src/chars.rt:104:9
 returns-3 : tie.Need-returns-3
 unfolding is-ident-char
 returns-3 c =
@@ -48,11 +35,9 @@ returns-3 c =
       sym (c .before .is-lu .ensures) ∙ c .if3 .taken,
     )
 
--- src/chars.rt:106:8
 is-lo-requires : tie.Need-is-lo-requires
 is-lo-requires c κs = search needs
 
--- src/chars.rt:107:9
 returns-4 : tie.Need-returns-4
 unfolding is-ident-char
 returns-4 c =
@@ -66,11 +51,9 @@ returns-4 c =
       sym (c .before .is-lo .ensures) ∙ c .if4 .taken,
     )
 
--- src/chars.rt:109:5
 is-lm-requires : tie.Need-is-lm-requires
 is-lm-requires c κs = search needs
 
--- src/chars.rt:93:1
 returns-5 : tie.Need-returns-5
 unfolding is-ident-char
 returns-5 c =

@@ -1,38 +1,30 @@
-use Rattle.classes.proofs.Tests.{tests}
-use Rattle.classes.specs.Parts.{listed-white}
-use native.Mathlib.Omega.{arith}
+-- `is_listed_white` meets its contract: each return is an arm of the definition's test.
 use borrow.Author.Needs.{needs}
+use Rattle.classes.specs.Parts.{listed-white}
+use Rattle.classes.proofs.Tests.{tests}
 use Rattle.classes.proofs.chars.is_listed_white.Statement.{statement}
 use Rattle.classes.proofs.chars.is_listed_white.Tie as tie
-use Rattle.classes.proofs.chars.is_listed_white.Reads as reads
-use Rattle.classes.proofs.chars.is_listed_white.Lts as lts
 
--- src/chars.rt:117:9
 returns : tie.Need-returns
 unfolding listed-white
 returns c = search (tests, needs)
 
--- src/chars.rt:120:9
 returns-2 : tie.Need-returns-2
 unfolding listed-white
 returns-2 c = search (tests, needs)
 
--- src/chars.rt:123:9
 returns-3 : tie.Need-returns-3
 unfolding listed-white
 returns-3 c = search (tests, needs)
 
--- src/chars.rt:126:9
 returns-4 : tie.Need-returns-4
 unfolding listed-white
 returns-4 c = search (tests, needs)
 
--- src/chars.rt:129:9
 returns-5 : tie.Need-returns-5
 unfolding listed-white
 returns-5 c = search (tests, needs)
 
--- src/chars.rt:113:1
 returns-6 : tie.Need-returns-6
 unfolding listed-white
 returns-6 c = search (tests, needs)

@@ -1,20 +1,16 @@
+-- `class_ascends` meets its contract. The invariant: the test of the ranges from i on, none below `least`, answers what
+-- the test of all of them answers. The measure is the ranges left.
+use Prim.Native.Nat.{_+_, _-_, _≤_, _*_}
 use mathlib.Core.Bool.{false}
-use Prim.Native.Nat.{ℕ, _+_, _-_, _≤_, _<_, _*_}
-use mathlib.Core.Path.{_≡_, refl, sym, ap, _∙_}
+use mathlib.Core.Path.{_≡_, refl, sym, _∙_}
+use native.Mathlib.Omega.{arith}
 use lib.ListN.{length, drop}
+use borrow.Author.Needs.{needs}
 use Rattle.definition.specs.ClassFile.{ranges-of, ascending}
-use Rattle.classes.specs.Search.{first-at, last-at}
 use Rattle.classes.proofs.Ranges.{ascending-next, ascending-fails, ascending-end, Reads}
 use Rattle.classes.proofs.Accepted.{laid, class-within, length-ranges, first-read, last-read}
-use native.Mathlib.Omega.{arith}
-use borrow.Author.Needs.{needs}
 use Rattle.classes.proofs.check.class_ascends.Statement.{statement}
 use Rattle.classes.proofs.check.class_ascends.Tie as tie
-use Rattle.classes.proofs.check.class_ascends.Reads as reads
-use Rattle.classes.proofs.check.class_ascends.Lts as lts
-use Rattle.classes.proofs.check.class_count.Reads as class-count-reads
-use Rattle.classes.proofs.check.class_start.Reads as class-start-reads
-use Rattle.classes.proofs.check.number_at.Reads as number-at-reads
 
 abbrev Inv-loop : tie.InvT-loop
 Inv-loop file k start count least₀ i₀ least i = (i ≤ count) × (ascending 0 (ranges-of file k) ≡ ascending least (drop i (ranges-of file k)))
@@ -22,15 +18,12 @@ Inv-loop file k start count least₀ i₀ least i = (i ≤ count) × (ascending 
 abbrev μ-loop : tie.MeasureT-loop
 μ-loop file k start count least₀ i₀ least i = count - i
 
--- src/check.rt:64:9
 class-start-requires : tie.Need-class-start-requires Inv-loop μ-loop
 class-start-requires c κs = search needs
 
--- src/check.rt:65:9
 class-count-requires : tie.Need-class-count-requires Inv-loop μ-loop
 class-count-requires c κs = search needs
 
--- src/check.rt:68:5
 loop-holds : tie.Need-loop-holds Inv-loop μ-loop
 loop-holds c = (omega arith, refl)
 
@@ -40,31 +33,24 @@ within c =
     let a = c .before .before .before .before .before in
     omega (arith, class-within _ (laid _ (a .pre .0)) _ (a .pre .1))
 
--- src/check.rt:69:45
 mul-number-at : tie.Need-mul-number-at Inv-loop μ-loop
 mul-number-at c = omega (arith, within c)
 
--- src/check.rt:69:37
 add-number-at : tie.Need-add-number-at Inv-loop μ-loop
 add-number-at c = omega (arith, within c)
 
--- src/check.rt:69:13
 number-at-requires : tie.Need-number-at-requires Inv-loop μ-loop
 number-at-requires c κs = omega (arith, within c)
 
--- src/check.rt:70:44
 mul-number-at-2 : tie.Need-mul-number-at-2 Inv-loop μ-loop
 mul-number-at-2 c = omega (arith, within (c .before))
 
--- src/check.rt:70:36
 add-number-at-2 : tie.Need-add-number-at-2 Inv-loop μ-loop
 add-number-at-2 c = omega (arith, within (c .before))
 
--- src/check.rt:70:36
 add-number-at-3 : tie.Need-add-number-at-3 Inv-loop μ-loop
 add-number-at-3 c = omega (arith, within (c .before))
 
--- src/check.rt:70:13
 number-at-requires-2 : tie.Need-number-at-requires-2 Inv-loop μ-loop
 number-at-requires-2 c κs = omega (arith, within (c .before))
 
@@ -86,38 +72,30 @@ fails : (c : tie.After-number-at2 Inv-loop μ-loop)
     → false ≡ ascending 0 (ranges-of (c .before .before .before .before .before .before .before .args .file .now) (c .before .before .before .before .before .before .before .args .k))
 fails c wrong = sym (c .before .before .before .loop .inv .1 ∙ ascending-fails _ _ _ _ _ (read c) wrong)
 
--- src/check.rt:72:13
 returns : tie.Need-returns Inv-loop μ-loop
 returns c = fails (c .before) (λ p q l. omega arith)
 
--- src/check.rt:75:13
 returns-2 : tie.Need-returns-2 Inv-loop μ-loop
 returns-2 c = fails (c .before .before) (λ p q l. omega arith)
 
--- src/check.rt:78:13
 returns-3 : tie.Need-returns-3 Inv-loop μ-loop
 returns-3 c = fails (c .before .before .before) (λ p q l. omega arith)
 
--- src/check.rt:80:17
 add-least : tie.Need-add-least Inv-loop μ-loop
 add-least c = omega arith
 
--- src/check.rt:81:9
 add-i : tie.Need-add-i Inv-loop μ-loop
 add-i c = omega arith
 
--- src/check.rt:68:5
 loop-less : tie.Need-loop-less Inv-loop μ-loop
 loop-less c = omega arith
 
--- src/check.rt:68:5
 loop-again : tie.Need-loop-again Inv-loop μ-loop
 loop-again c =
     let t = c .before .before .before in
     let l = t .before .before .before .loop in
     (omega arith, l .inv .1 ∙ ascending-next _ _ _ _ _ (read t) (c .before .before .if1 .left) (c .before .if2 .left) (c .if3 .left))
 
--- src/check.rt:60:1
 returns-4 : tie.Need-returns-4 Inv-loop μ-loop
 returns-4 c =
     let a = c .before .before .before .before .before .args in

@@ -1,14 +1,12 @@
+-- `laid_out` meets its contract. The invariant, `Placed`: the offsets of the classes before k are right, and `place` is
+-- where class k begins. The measure is the classes left.
 use Prim.Native.Nat.{_-_}
-use mathlib.Core.Path.{_≡_, sym, _∙_}
+use mathlib.Core.Path.{sym, _∙_}
+use native.Mathlib.Omega.{arith}
 use Rattle.definition.specs.ClassFile.{class-offset, class-count}
 use Rattle.classes.proofs.Accepted.{Placed, placed-start, placed-next, placed-wrong, placed-end}
-use native.Mathlib.Omega.{arith}
-use borrow.Author.Needs.{needs}
 use Rattle.classes.proofs.check.laid_out.Statement.{statement}
 use Rattle.classes.proofs.check.laid_out.Tie as tie
-use Rattle.classes.proofs.check.laid_out.Reads as reads
-use Rattle.classes.proofs.check.laid_out.Lts as lts
-use Rattle.classes.proofs.check.number_at.Reads as number-at-reads
 
 abbrev Inv-loop : tie.InvT-loop
 Inv-loop file place₀ k₀ place k = Placed file k place
@@ -16,62 +14,48 @@ Inv-loop file place₀ k₀ place k = Placed file k place
 abbrev μ-loop : tie.MeasureT-loop
 μ-loop file place₀ k₀ place k = 6 - k
 
--- src/check.rt:49:5
 loop-holds : tie.Need-loop-holds Inv-loop μ-loop
 loop-holds c = placed-start _
 
--- src/check.rt:50:28
 mul-number-at : tie.Need-mul-number-at Inv-loop μ-loop
 mul-number-at c = omega arith
 
--- src/check.rt:50:28
 add-number-at : tie.Need-add-number-at Inv-loop μ-loop
 add-number-at c = omega arith
 
--- src/check.rt:50:12
 number-at-requires : tie.Need-number-at-requires Inv-loop μ-loop
 number-at-requires c κs = omega arith
 
--- src/check.rt:50:12
 cast-if1 : tie.Need-cast-if1 Inv-loop μ-loop
 cast-if1 c = omega arith
 
--- src/check.rt:51:13
 returns : tie.Need-returns Inv-loop μ-loop
 unfolding class-offset
 returns c =
     let a = c .before .before in
     sym (placed-wrong _ _ _ (a .before .loop .inv) (a .loop-test .taken) (λ e. c .if1 .taken (c .before .number-at .ensures ∙ e)))
 
--- src/check.rt:53:39
 mul-number-at-2 : tie.Need-mul-number-at-2 Inv-loop μ-loop
 mul-number-at-2 c = omega arith
 
--- src/check.rt:53:23
 number-at-requires-2 : tie.Need-number-at-requires-2 Inv-loop μ-loop
 number-at-requires-2 c κs = omega arith
 
--- src/check.rt:53:23
 cast-place : tie.Need-cast-place Inv-loop μ-loop
 cast-place c = omega arith
 
--- src/check.rt:53:18
 mul-place : tie.Need-mul-place Inv-loop μ-loop
 mul-place c = omega arith
 
--- src/check.rt:53:9
 add-place : tie.Need-add-place Inv-loop μ-loop
 add-place c = omega arith
 
--- src/check.rt:54:9
 add-k : tie.Need-add-k Inv-loop μ-loop
 add-k c = omega arith
 
--- src/check.rt:49:5
 loop-less : tie.Need-loop-less Inv-loop μ-loop
 loop-less c = omega arith
 
--- src/check.rt:49:5
 loop-again : tie.Need-loop-again Inv-loop μ-loop
 unfolding class-offset class-count
 loop-again c =
@@ -79,7 +63,6 @@ loop-again c =
     placed-next _ _ _ _ (a .before .before .loop .inv) (a .before .loop-test .taken) (omega arith) (c .number-at2 .ensures)
     (sym (a .number-at .ensures) ∙ c .before .if1 .left)
 
--- src/check.rt:43:1
 returns-2 : tie.Need-returns-2 Inv-loop μ-loop
 returns-2 c = sym (placed-end _ _ _ (c .before .loop .inv) (c .loop-test .left))
 

@@ -1,15 +1,14 @@
-use Prim.Native.Nat.{ℕ, _+_, _-_, _/_}
-use mathlib.Core.Path.{_≡_, sym, _∙_}
+-- `find_ll` meets its contract, by the law of the search that the classes of a file have too: the table ascends. The
+-- measure is how many ranges are left.
+use Prim.Native.Nat.{_-_}
+use mathlib.Core.Path.{sym, _∙_}
+use native.Mathlib.Omega.{arith}
+use borrow.Author.Needs.{needs}
 use Rattle.definition.specs.Lowercase.{ll-tbl}
 use Rattle.classes.proofs.Ranges.{Narrowed, narrow-start, narrow-none, narrow-high, narrow-low, narrow-found}
 use Rattle.classes.proofs.LowercaseTable.{ll-ascends, ll-ranges-count, flat-first, flat-last}
-use native.Mathlib.Omega.{arith}
-use borrow.Author.Needs.{needs}
 use Rattle.classes.proofs.lowercase.find_ll.Statement.{statement}
 use Rattle.classes.proofs.lowercase.find_ll.Tie as tie
-use Rattle.classes.proofs.lowercase.find_ll.Reads as reads
-use Rattle.classes.proofs.lowercase.find_ll.Lts as lts
-use Rattle.classes.proofs.lowercase.ll_number.Reads as ll-number-reads
 
 abbrev Inv-loop : tie.InvT-loop
 Inv-loop c low₀ high₀ low high = Narrowed ll-tbl c low high
@@ -17,49 +16,38 @@ Inv-loop c low₀ high₀ low high = Narrowed ll-tbl c low high
 abbrev μ-loop : tie.MeasureT-loop
 μ-loop c low₀ high₀ low high = high - low
 
--- src/lowercase.rt:1357:5
 loop-holds : tie.Need-loop-holds Inv-loop μ-loop
 loop-holds c = narrow-start _ _ _ (sym ll-ranges-count)
 
--- src/lowercase.rt:1358:26
 sub-mid : tie.Need-sub-mid Inv-loop μ-loop
 sub-mid c = search needs
 
--- src/lowercase.rt:1358:19
 add-mid : tie.Need-add-mid Inv-loop μ-loop
 add-mid c = omega (arith, ll-ranges-count)
 
--- src/lowercase.rt:1359:26
 mul-ll-number : tie.Need-mul-ll-number Inv-loop μ-loop
 mul-ll-number c = omega (arith, ll-ranges-count)
 
--- src/lowercase.rt:1359:16
 ll-number-requires : tie.Need-ll-number-requires Inv-loop μ-loop
 ll-number-requires c κs = omega (arith, ll-ranges-count)
 
--- src/lowercase.rt:1357:5
 loop-less : tie.Need-loop-less Inv-loop μ-loop
 loop-less c = search needs
 
--- src/lowercase.rt:1357:5
 loop-again : tie.Need-loop-again Inv-loop μ-loop
 loop-again c =
     let t = c .before in
     narrow-high ll-ascends (t .before .before .loop .inv) _ (omega arith) (omega arith) (rw (t .ll-number .ensures ∙ flat-first ll-tbl _) at (c .if1 .taken))
 
--- src/lowercase.rt:1362:31
 mul-ll-number-2 : tie.Need-mul-ll-number-2 Inv-loop μ-loop
 mul-ll-number-2 c = omega (arith, ll-ranges-count)
 
--- src/lowercase.rt:1362:31
 add-ll-number : tie.Need-add-ll-number Inv-loop μ-loop
 add-ll-number c = omega (arith, ll-ranges-count)
 
--- src/lowercase.rt:1362:21
 ll-number-requires-2 : tie.Need-ll-number-requires-2 Inv-loop μ-loop
 ll-number-requires-2 c κs = omega (arith, ll-ranges-count)
 
--- src/lowercase.rt:1363:17
 returns : tie.Need-returns Inv-loop μ-loop
 returns c =
     let t = c .before in
@@ -68,21 +56,17 @@ returns c =
     (rw (s .ll-number .ensures ∙ flat-first ll-tbl _) at (t .before .if1 .left))
     (rw (t .ll-number2 .ensures ∙ flat-last ll-tbl _) at (c .if2 .taken)))
 
--- src/lowercase.rt:1365:19
 add-low : tie.Need-add-low Inv-loop μ-loop
 add-low c = omega (arith, ll-ranges-count)
 
--- src/lowercase.rt:1357:5
 loop-less-2 : tie.Need-loop-less-2 Inv-loop μ-loop
 loop-less-2 c = omega arith
 
--- src/lowercase.rt:1357:5
 loop-again-2 : tie.Need-loop-again-2 Inv-loop μ-loop
 loop-again-2 c =
     let t = c .before in
     narrow-low ll-ascends (t .before .before .before .before .loop .inv) _ (omega arith) (omega arith) (rw (t .ll-number2 .ensures ∙ flat-last ll-tbl _) at (c .if2 .left))
 
--- src/lowercase.rt:1352:1
 returns-2 : tie.Need-returns-2 Inv-loop μ-loop
 returns-2 c = sym (narrow-none _ _ _ _ (c .before .loop .inv) (c .loop-test .left))
 

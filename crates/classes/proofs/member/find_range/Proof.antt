@@ -1,20 +1,17 @@
+-- `find_range` meets its contract. The invariant, `Narrowed`: a range that holds c is one from `low` up to `high`. The
+-- measure is how many those are. That the ranges ascend and lie within the file is what the file's acceptance gives.
+use Prim.Native.Nat.{_+_, _-_, _*_, _/_, _≤_, _<_}
 use mathlib.Core.Bool.{true}
-use Rattle.classes.specs.Search.{first-at, last-at}
-use Prim.Native.Nat.{ℕ, _+_, _-_, _*_, _/_, _≤_, _<_}
 use mathlib.Core.Path.{_≡_, sym, _∙_}
+use native.Mathlib.Omega.{arith}
 use lib.ListN.{length}
+use borrow.Author.Needs.{needs}
 use Rattle.definition.specs.ClassFile.{ranges-of, ascending}
+use Rattle.classes.specs.Search.{first-at, last-at}
 use Rattle.classes.proofs.Ranges.{Narrowed, narrow-start, narrow-none, narrow-high, narrow-low, narrow-found}
 use Rattle.classes.proofs.Accepted.{accepted, length-ranges, first-read, last-read}
-use native.Mathlib.Omega.{arith}
-use borrow.Author.Needs.{needs}
 use Rattle.classes.proofs.member.find_range.Statement.{statement}
 use Rattle.classes.proofs.member.find_range.Tie as tie
-use Rattle.classes.proofs.member.find_range.Reads as reads
-use Rattle.classes.proofs.member.find_range.Lts as lts
-use Rattle.classes.proofs.check.class_count.Reads as class-count-reads
-use Rattle.classes.proofs.check.class_start.Reads as class-start-reads
-use Rattle.classes.proofs.check.number_at.Reads as number-at-reads
 
 abbrev Inv-loop : tie.InvT-loop
 Inv-loop file k c start low₀ high₀ low high = Narrowed (ranges-of file k) c low high
@@ -22,15 +19,12 @@ Inv-loop file k c start low₀ high₀ low high = Narrowed (ranges-of file k) c 
 abbrev μ-loop : tie.MeasureT-loop
 μ-loop file k c start low₀ high₀ low high = high - low
 
--- src/member.rt:19:9
 class-start-requires : tie.Need-class-start-requires Inv-loop μ-loop
 class-start-requires c κs = (accepted _ (c .before .pre .0) .laid-right, c .before .pre .1)
 
--- src/member.rt:21:9
 class-count-requires : tie.Need-class-count-requires Inv-loop μ-loop
 class-count-requires c κs = (accepted _ (c .before .before .pre .0) .laid-right, c .before .before .pre .1)
 
--- src/member.rt:22:5
 loop-holds : tie.Need-loop-holds Inv-loop μ-loop
 loop-holds c = narrow-start _ _ _ (c .class-count .ensures ∙ sym (length-ranges _ _))
 
@@ -47,23 +41,18 @@ middle c =
     let w = accepted _ (a .pre .0) .within _ (a .pre .1) in
     record { counted = omega (arith, l .inv .within); inside = omega (arith, l .inv .within) }
 
--- src/member.rt:23:26
 sub-mid : tie.Need-sub-mid Inv-loop μ-loop
 sub-mid c = search needs
 
--- src/member.rt:23:19
 add-mid : tie.Need-add-mid Inv-loop μ-loop
 add-mid c = omega (arith, middle c)
 
--- src/member.rt:24:40
 mul-number-at : tie.Need-mul-number-at Inv-loop μ-loop
 mul-number-at c = omega (arith, middle c .inside)
 
--- src/member.rt:24:32
 add-number-at : tie.Need-add-number-at Inv-loop μ-loop
 add-number-at c = omega (arith, middle c .inside)
 
--- src/member.rt:24:16
 number-at-requires : tie.Need-number-at-requires Inv-loop μ-loop
 number-at-requires c κs = omega (arith, middle c .inside)
 
@@ -86,56 +75,45 @@ last c =
     let a = t .before .before .before in
     last-read _ _ _ _ _ _ (a .before .class-start .ensures) (a .class-count .ensures) (middle (t .before) .counted) (c .number-at2 .ensures)
 
--- src/member.rt:22:5
 loop-less : tie.Need-loop-less Inv-loop μ-loop
 loop-less c = search needs
 
--- src/member.rt:22:5
 loop-again : tie.Need-loop-again Inv-loop μ-loop
 loop-again c =
     let t = c .before in
     let l = t .before .before in
     narrow-high (ascends l) (l .loop .inv) _ (omega arith) (omega arith) (rw (first t) at (c .if1 .taken))
 
--- src/member.rt:27:45
 mul-number-at-2 : tie.Need-mul-number-at-2 Inv-loop μ-loop
 mul-number-at-2 c = omega (arith, middle (c .before .before) .inside)
 
--- src/member.rt:27:37
 add-number-at-2 : tie.Need-add-number-at-2 Inv-loop μ-loop
 add-number-at-2 c = omega (arith, middle (c .before .before) .inside)
 
--- src/member.rt:27:37
 add-number-at-3 : tie.Need-add-number-at-3 Inv-loop μ-loop
 add-number-at-3 c = omega (arith, middle (c .before .before) .inside)
 
--- src/member.rt:27:21
 number-at-requires-2 : tie.Need-number-at-requires-2 Inv-loop μ-loop
 number-at-requires-2 c κs = omega (arith, middle (c .before .before) .inside)
 
--- src/member.rt:28:17
 returns : tie.Need-returns Inv-loop μ-loop
 returns c =
     let t = c .before in
     let l = t .before .before .before .before in
     sym (narrow-found (ascends l) (l .loop .inv) _ (omega arith) (omega arith) (rw (first (t .before .before)) at (t .before .if1 .left)) (rw (last t) at (c .if2 .taken)))
 
--- src/member.rt:30:19
 add-low : tie.Need-add-low Inv-loop μ-loop
 add-low c = omega (arith, middle (c .before .before .before .before) .counted)
 
--- src/member.rt:22:5
 loop-less-2 : tie.Need-loop-less-2 Inv-loop μ-loop
 loop-less-2 c = omega arith
 
--- src/member.rt:22:5
 loop-again-2 : tie.Need-loop-again-2 Inv-loop μ-loop
 loop-again-2 c =
     let t = c .before in
     let l = t .before .before .before .before in
     narrow-low (ascends l) (l .loop .inv) _ (omega arith) (omega arith) (rw (last t) at (c .if2 .left))
 
--- src/member.rt:15:1
 returns-2 : tie.Need-returns-2 Inv-loop μ-loop
 returns-2 c = sym (narrow-none _ _ _ _ (c .before .loop .inv) (c .loop-test .left))
 
