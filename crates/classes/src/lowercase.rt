@@ -1358,11 +1358,10 @@ pub fn find_ll(c: u32) -> Found
         let mid = low + (high - low) / 2;
         if c < ll_number(2 * mid) {
             high = mid;
-        } else {
-            if c <= ll_number(2 * mid + 1) {
-                return Found::At(mid);
-            }
+        } else if ll_number(2 * mid + 1) < c {
             low = mid + 1;
+        } else {
+            return Found::At(mid);
         }
     }
     Found::Nothing

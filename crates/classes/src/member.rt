@@ -14,6 +14,7 @@ pub enum Found {
 }
 
 impl Found {
+    // Whether there is such a range.
     pub fn is_some(self) -> bool
         ensures { λ r. ⌜ r ≡ is-found self ⌝ }
     {
@@ -36,22 +37,24 @@ pub fn find_range(file: &[u8], k: usize, c: u32) -> Found
         let mid = low + (high - low) / 2;
         if c < number_at(file, start + 8 * mid) {
             high = mid;
-        } else {
-            if c <= number_at(file, start + 8 * mid + 4) {
-                return Found::At(mid);
-            }
+        } else if number_at(file, start + 8 * mid + 4) < c {
             low = mid + 1;
+        } else {
+            return Found::At(mid);
         }
     }
     Found::Nothing
 }
 
+// Whether a range of class k holds c.
 pub fn in_class(file: &[u8], k: usize, c: u32) -> bool
     requires { ⌜ (class-check (now file) ≡ 0) × (k < 6) ⌝ }
     ensures { λ r. ⌜ r ≡ in-ranges (ranges-of (now (file .entry)) k) c ⌝ }
 {
     find_range(file, k, c).is_some()
 }
+
+// The six classes, in the file's order.
 
 pub fn is_lu(file: &[u8], c: u32) -> bool
     requires { ⌜ class-check (now file) ≡ 0 ⌝ }

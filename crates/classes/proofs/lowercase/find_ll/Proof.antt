@@ -48,14 +48,6 @@ add-ll-number c = omega (arith, ll-ranges-count)
 ll-number-requires-2 : tie.Need-ll-number-requires-2 Inv-loop μ-loop
 ll-number-requires-2 c κs = omega (arith, ll-ranges-count)
 
-returns : tie.Need-returns Inv-loop μ-loop
-returns c =
-    let t = c .before in
-    let s = t .before .before in
-    sym (narrow-found ll-ascends (s .before .before .loop .inv) _ (omega arith) (omega arith)
-    (rw (s .ll-number .ensures ∙ flat-first ll-tbl _) at (t .before .if1 .left))
-    (rw (t .ll-number2 .ensures ∙ flat-last ll-tbl _) at (c .if2 .taken)))
-
 add-low : tie.Need-add-low Inv-loop μ-loop
 add-low c = omega (arith, ll-ranges-count)
 
@@ -65,7 +57,15 @@ loop-less-2 c = omega arith
 loop-again-2 : tie.Need-loop-again-2 Inv-loop μ-loop
 loop-again-2 c =
     let t = c .before in
-    narrow-low ll-ascends (t .before .before .before .before .loop .inv) _ (omega arith) (omega arith) (rw (t .ll-number2 .ensures ∙ flat-last ll-tbl _) at (c .if2 .left))
+    narrow-low ll-ascends (t .before .before .before .before .loop .inv) _ (omega arith) (omega arith) (rw (t .ll-number2 .ensures ∙ flat-last ll-tbl _) at (c .if2 .taken))
+
+returns : tie.Need-returns Inv-loop μ-loop
+returns c =
+    let t = c .before in
+    let s = t .before .before in
+    sym (narrow-found ll-ascends (s .before .before .loop .inv) _ (omega arith) (omega arith)
+    (rw (s .ll-number .ensures ∙ flat-first ll-tbl _) at (t .before .if1 .left))
+    (rw (t .ll-number2 .ensures ∙ flat-last ll-tbl _) at (c .if2 .left)))
 
 returns-2 : tie.Need-returns-2 Inv-loop μ-loop
 returns-2 c = sym (narrow-none _ _ _ _ (c .before .loop .inv) (c .loop-test .left))
@@ -86,8 +86,8 @@ find-ll-spec =
     mul-ll-number-2
     add-ll-number
     ll-number-requires-2
-    returns
     add-low
     loop-less-2
     loop-again-2
+    returns
     returns-2)

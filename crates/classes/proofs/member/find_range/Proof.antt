@@ -96,12 +96,6 @@ add-number-at-3 c = omega (arith, middle (c .before .before) .inside)
 number-at-requires-2 : tie.Need-number-at-requires-2 Inv-loop μ-loop
 number-at-requires-2 c κs = omega (arith, middle (c .before .before) .inside)
 
-returns : tie.Need-returns Inv-loop μ-loop
-returns c =
-    let t = c .before in
-    let l = t .before .before .before .before in
-    sym (narrow-found (ascends l) (l .loop .inv) _ (omega arith) (omega arith) (rw (first (t .before .before)) at (t .before .if1 .left)) (rw (last t) at (c .if2 .taken)))
-
 add-low : tie.Need-add-low Inv-loop μ-loop
 add-low c = omega (arith, middle (c .before .before .before .before) .counted)
 
@@ -112,7 +106,13 @@ loop-again-2 : tie.Need-loop-again-2 Inv-loop μ-loop
 loop-again-2 c =
     let t = c .before in
     let l = t .before .before .before .before in
-    narrow-low (ascends l) (l .loop .inv) _ (omega arith) (omega arith) (rw (last t) at (c .if2 .left))
+    narrow-low (ascends l) (l .loop .inv) _ (omega arith) (omega arith) (rw (last t) at (c .if2 .taken))
+
+returns : tie.Need-returns Inv-loop μ-loop
+returns c =
+    let t = c .before in
+    let l = t .before .before .before .before in
+    sym (narrow-found (ascends l) (l .loop .inv) _ (omega arith) (omega arith) (rw (first (t .before .before)) at (t .before .if1 .left)) (rw (last t) at (c .if2 .left)))
 
 returns-2 : tie.Need-returns-2 Inv-loop μ-loop
 returns-2 c = sym (narrow-none _ _ _ _ (c .before .loop .inv) (c .loop-test .left))
@@ -137,8 +137,8 @@ find-range-spec =
     add-number-at-2
     add-number-at-3
     number-at-requires-2
-    returns
     add-low
     loop-less-2
     loop-again-2
+    returns
     returns-2)
