@@ -14,7 +14,8 @@ use borrow.Author.Tests.{eqb-true, le-ltb, lt-ltb, eq-eqb, ne-eqb}
 use Rattle.definition.specs.Basics.{Bytes}
 use Rattle.definition.specs.ClassFile.{Range, little-endian, class-count, class-offset, counts-before, place-of, read-ranges, ranges-of, bad-class-length, offsets-right, laid-out, ascending, ranges-right, class-check}
 use Rattle.classes.specs.Search.{first-at, last-at}
-use Rattle.classes.proofs.Tests.{by-test, by-order, never, all-each, all-more, all-fails}
+use Rattle.lemmas.proofs.Cases.{by-bool, by-order, never}
+use Rattle.classes.proofs.Tests.{all-each, all-more, all-fails}
 
 -- ---- the places of the classes
 
@@ -97,7 +98,7 @@ pub record Laid (f : Bytes) : Type 0 where
 pub laid : (f : Bytes) → laid-out f ≡ true → Laid f
 unfolding laid-out
 laid f =
-    by-test (λ t. (t && eqb (length f) (place-of f 6)) ≡ true → Laid f) (offsets-right f 6)
+    by-bool (λ t. (t && eqb (length f) (place-of f 6)) ≡ true → Laid f) (offsets-right f 6)
     (λ o e. record { offset = λ k h. eqb-true (class-offset f k) (place-of f k) (all-each (offset-test f) (offsets-right f) (offsets-step f) 6 o k h); whole = eqb-true (length f) (place-of f 6) e })
     (λ o e. never e)
 
@@ -211,9 +212,9 @@ accepted f e =
     (λ h.
     by-order 65536 (length f) (λ l. absurd (omega (arith, check-long f h l)))
     (λ l.
-    by-test (λ t. Accepted f) (laid-out f)
+    by-bool (λ t. Accepted f) (laid-out f)
     (λ o.
-    by-test (λ t. Accepted f) (ranges-right f 6)
+    by-bool (λ t. Accepted f) (ranges-right f 6)
     (λ r. all-right h l o r)
     (λ r. absurd (omega (arith, check-ranges f h l o r))))
     (λ o. absurd (omega (arith, check-layout f h l o)))))

@@ -13,21 +13,21 @@ use lib.Seq.{ext-getD, getD-set-same, getD-set-other, take-suc}
 use borrow.Author.Tests.{eqb-true, eqb-false, ne-eqb}
 use Rattle.definition.specs.Basics.{mem-cp}
 use Rattle.definition.specs.Chars.{count-up, ascii-table}
-use Rattle.classes.proofs.Tests.{by-test}
+use Rattle.lemmas.proofs.Cases.{by-bool}
 
 -- a list that ends with a character has it
 mem-last : (c b : ℕ) (l : List ℕ) → eqb b c ≡ true → mem-cp c (l ++ b ∷ []) ≡ true
 unfolding mem-cp
 mem-last c b [] e = rw (mem-cp, e)
 mem-last c b (d ∷ l) e =
-    by-test (λ t. elim t [ true ↦ true | false ↦ mem-cp c (l ++ b ∷ []) ] ≡ true) (eqb d c) (λ q. refl) (λ q. mem-last c b l e)
+    by-bool (λ t. elim t [ true ↦ true | false ↦ mem-cp c (l ++ b ∷ []) ] ≡ true) (eqb d c) (λ q. refl) (λ q. mem-last c b l e)
 
 -- at its end another character changes nothing
 mem-other : (c b : ℕ) (l : List ℕ) → eqb b c ≡ false → mem-cp c (l ++ b ∷ []) ≡ mem-cp c l
 unfolding mem-cp
 mem-other c b [] e = rw (mem-cp, e)
 mem-other c b (d ∷ l) e =
-    by-test (λ t. _≡_ {A = Bool} (elim t [ true ↦ true | false ↦ mem-cp c (l ++ b ∷ []) ]) (elim t [ true ↦ true | false ↦ mem-cp c l ])) (eqb d c)
+    by-bool (λ t. _≡_ {A = Bool} (elim t [ true ↦ true | false ↦ mem-cp c (l ++ b ∷ []) ]) (elim t [ true ↦ true | false ↦ mem-cp c l ])) (eqb d c)
     (λ q. refl)
     (λ q. mem-other c b l e)
 
@@ -47,7 +47,7 @@ module _ (table : List Bool) (l : List ℕ) (b : ℕ) (f : Filled table l) where
   filled-set h = record {
     size = length-set table b true ∙ f .size;
     entry = λ c q.
-        by-test (λ t. getD (set table b true) c false ≡ mem-cp c (l ++ b ∷ [])) (eqb b c)
+        by-bool (λ t. getD (set table b true) c false ≡ mem-cp c (l ++ b ∷ [])) (eqb b c)
         (λ e. same c e (eqb-true b c e))
         (λ e. getD-set-other table b c true false (λ n. eqb-false b c e (sym n)) ∙ f .entry c q ∙ sym (mem-other c b l e));
   }

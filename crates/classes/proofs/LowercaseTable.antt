@@ -9,12 +9,12 @@ use native.Mathlib.Omega.{arith}
 use lib.ListN.{length, getD}
 use Rattle.definition.specs.ClassFile.{Range, ascending}
 use Rattle.definition.specs.Lowercase.{ll-tbl, flat}
+use Rattle.definition.proofs.Tables.{ll-ascending}
 use Rattle.classes.specs.Search.{first-at, last-at}
 
 -- the one test over the whole table; `each-legal` and `apart` are its rule at each range
 pub ll-ascends : ascending 0 ll-tbl ≡ true
-unfolding ascending ll-tbl
-ll-ascends = refl
+ll-ascends = ll-ascending
 
 -- the table has 664 ranges
 pub ll-ranges-count : length ll-tbl ≡ 664

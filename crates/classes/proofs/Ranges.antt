@@ -17,7 +17,8 @@ use Rattle.definition.specs.Basics.{between}
 use Rattle.definition.specs.ClassFile.{Range, in-ranges, ascending}
 use Rattle.classes.specs.declared.member.Found.the-variants.{At, Nothing}
 use Rattle.classes.specs.Search.{first-at, last-at, Holds, range-from, range-of, is-found}
-use Rattle.classes.proofs.Tests.{never, by-test, by-order, between-yes, between-above, between-cases}
+use Rattle.lemmas.proofs.Cases.{never, by-bool, by-order}
+use Rattle.classes.proofs.Tests.{between-yes, between-above, between-cases}
 
 -- what the test says of the first range of a list, and of the rest
 pub record Step (n : ℕ) (r : Range) (rs : List Range) : Type 0 where
@@ -30,11 +31,11 @@ pub record Step (n : ℕ) (r : Range) (rs : List Range) : Type 0 where
 pub ascending-step : (n : ℕ) (r : Range) (rs : List Range) → ascending n (r ∷ rs) ≡ true → Step n r rs
 unfolding ascending
 ascending-step n r rs =
-    by-test (λ t. elim (t && (leb (r .0) (r .1) && leb (r .1) 1114111)) [ true ↦ ascending (suc (r .1)) rs | false ↦ false ] ≡ true → Step n r rs) (leb n (r .0))
+    by-bool (λ t. elim (t && (leb (r .0) (r .1) && leb (r .1) 1114111)) [ true ↦ ascending (suc (r .1)) rs | false ↦ false ] ≡ true → Step n r rs) (leb n (r .0))
     (λ p.
-    by-test (λ t. elim (t && leb (r .1) 1114111) [ true ↦ ascending (suc (r .1)) rs | false ↦ false ] ≡ true → Step n r rs) (leb (r .0) (r .1))
+    by-bool (λ t. elim (t && leb (r .1) 1114111) [ true ↦ ascending (suc (r .1)) rs | false ↦ false ] ≡ true → Step n r rs) (leb (r .0) (r .1))
     (λ q.
-    by-test (λ t. elim t [ true ↦ ascending (suc (r .1)) rs | false ↦ false ] ≡ true → Step n r rs) (leb (r .1) 1114111)
+    by-bool (λ t. elim t [ true ↦ ascending (suc (r .1)) rs | false ↦ false ] ≡ true → Step n r rs) (leb (r .1) 1114111)
     (λ l e. record { on = leb-true n (r .0) p; whole = leb-true (r .0) (r .1) q; legal = leb-true (r .1) 1114111 l; rest = e })
     (λ l e. never e))
     (λ q e. never e))
@@ -42,7 +43,7 @@ ascending-step n r rs =
 
 -- a list whose first range takes no such step does not ascend
 ascending-stuck : (n : ℕ) (r : Range) (rs : List Range) → (Step n r rs → ⊥) → ascending n (r ∷ rs) ≡ false
-ascending-stuck n r rs stuck = by-test (λ t. t ≡ false) (ascending n (r ∷ rs)) (λ e. absurd (stuck (ascending-step n r rs e))) (λ e. refl)
+ascending-stuck n r rs stuck = by-bool (λ t. t ≡ false) (ascending n (r ∷ rs)) (λ e. absurd (stuck (ascending-step n r rs e))) (λ e. refl)
 
 -- ---- the test from range i on, as a loop goes through it
 
@@ -135,7 +136,7 @@ from-in-ranges : (n : ℕ) (rs : List Range) (c : ℕ) → is-found (range-from 
 unfolding range-from in-ranges
 from-in-ranges n [] c = refl
 from-in-ranges n (r ∷ rs) c =
-    by-test (λ t. is-found (elim t [ true ↦ At n | false ↦ range-from (suc n) rs c ]) ≡ elim t [ true ↦ true | false ↦ in-ranges rs c ]) (between (r .0) (r .1) c)
+    by-bool (λ t. is-found (elim t [ true ↦ At n | false ↦ range-from (suc n) rs c ]) ≡ elim t [ true ↦ true | false ↦ in-ranges rs c ]) (between (r .0) (r .1) c)
     (λ e. refl)
     (λ e. from-in-ranges (suc n) rs c)
 

@@ -1,3 +1,3 @@
-mod Tables
+pub mod Tables
 mod Cases
 mod Limits

@@ -4,13 +4,25 @@ use Prim.Native.Nat.{ℕ, _≤_, _<_}
 use mathlib.Core.Path.{_≡_, refl}
 use mathlib.Core.Bool.{Bool, true, false, _&&_, _||_, false≢true}
 use lib.Dec.{ltb, leb}
-use borrow.Author.Tests.{lt-ltb, le-ltb, ltb-true, ltb-false, leb-true, leb-false}
+use borrow.Author.Tests.{lt-ltb, le-ltb, le-leb, lt-leb, eq-eqb, ne-eqb, ltb-true, ltb-false, leb-true, leb-false}
 use Rattle.definition.specs.Basics.{if_then_else_}
 use Rattle.definition.specs.declared.Match.{Match}
 use Rattle.definition.specs.declared.Match.the-variants.{To, Nothing}
 
 -- for `simp` and `search`: a test for less is decided by what is known of its numbers
 pub ruleset tests = (lt-ltb, le-ltb)
+
+-- the same of every test
+pub ruleset all-tests = (lt-ltb, le-ltb, le-leb, lt-leb, eq-eqb, ne-eqb)
+
+-- what holds where a test is true, and where it is false, holds of the test
+pub by-bool : (P : Bool → Type 0) (t : Bool) → (t ≡ true → P true) → (t ≡ false → P false) → P t
+by-bool P true f g = f refl
+by-bool P false f g = g refl
+
+-- no test is both
+pub never : {X : Type 0} → false ≡ true → X
+never e = absurd (false≢true e)
 
 module _ {X : Type 0} where
   -- by a test's outcome
