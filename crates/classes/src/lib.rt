@@ -9,5 +9,6 @@
 pub mod check; // check.rt: the class check
 pub mod member; // member.rt: membership in a class of an accepted file
 pub mod lowercase; // lowercase.rt: the built-in lowercase letters
+mod ll_table; // ll_table.rt: their ranges
 pub mod ascii; // ascii.rt: the two tables of 128 entries
 pub mod chars; // chars.rt: the tests on characters
