@@ -1,3 +1,2 @@
--- `Search` is what the search among ranges answers, `Parts` the parts of tests that have a function of their own.
+-- `Search` is what the search among ranges answers.
 pub mod Search
-pub mod Parts
