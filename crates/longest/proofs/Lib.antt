@@ -1,3 +1,4 @@
 pub mod Language
 pub mod Ends
 pub mod Starts
+pub mod Shapes

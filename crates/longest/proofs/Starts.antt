@@ -80,6 +80,12 @@ step-same {q = q} {i} {j} {k} a b =
     let c : b .code ≡ a .code = cc in
     (omega (arith, a .ends, b .ends), subst (λ (x : ℕ). q x ≡ true) c (b .passes))
 
+-- A step is of the character that is read.
+pub step-code : {s : Bytes} {p : ℕ → Bool} {i e c w : ℕ} → sequence-at s i ≡ Char c w → Step s p i e → (e ≡ i + w) × (p c ≡ true)
+step-code {s} {p} {i} {e} {c} {w} q t =
+    let r = step-same {p = λ x. true} {j = i + w} (record { code = c; width = w; read = q; ends = refl; passes = refl }) t in
+    (sym (r .0), r .1)
+
 -- ---- an expression's parts and first characters
 
 -- It may permit parts of one length only: no alternative and no repetition is in it.
@@ -97,7 +103,7 @@ by-empty false b e f g = f refl
 
 module _ (s : Bytes) where
   -- Steps that never lead back don't either.
-  chain-forward : {P : ℕ → ℕ → Type 0} → ((i e : ℕ) → P i e → i ≤ e) → {i e : ℕ} → Chain P i e → i ≤ e
+  pub chain-forward : {P : ℕ → ℕ → Type 0} → ((i e : ℕ) → P i e → i ≤ e) → {i e : ℕ} → Chain P i e → i ≤ e
   chain-forward f (stop q) = omega arith
   chain-forward f {i} (step j a k) = omega (arith, f i j a, chain-forward f k)
 
