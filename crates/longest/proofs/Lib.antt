@@ -2,3 +2,4 @@ pub mod Language
 pub mod Ends
 pub mod Starts
 pub mod Shapes
+pub mod Best
