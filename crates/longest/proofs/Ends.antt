@@ -59,6 +59,16 @@ module _ {P : ℕ → Type 0} where
   right-both m true b r = r
   right-both m false b r = r
 
+  -- A matcher that a test allows, written as a choice.
+  pub right-else : (m : Match) (t : Bool) → Right P (only t m) → Right P (if t then m else Nothing)
+  right-else m true r = r
+  right-else m false r = r
+
+  -- A choice by a test, written in the other way.
+  pub right-elim : (m n : Match) (t : Bool) → Right P (if t then m else n) → Right P (elim t [ true ↦ m | false ↦ n ])
+  right-elim m n true r = r
+  right-elim m n false r = r
+
 -- The later of two answers is right for the ends of both.
 pub right-later : {P Q : ℕ → Type 0} {m n : Match} → Right P m → Right Q n → Right (λ e. P e ⊎ Q e) (later m n)
 unfolding later

@@ -3,3 +3,4 @@ pub mod Ends
 pub mod Starts
 pub mod Shapes
 pub mod Best
+pub mod Literals

@@ -30,11 +30,11 @@ use Rattle.text.proofs.Star.{star-on, star-from, by-star}
 use Rattle.progress.proofs.Cases.{by-test, both, either}
 use Rattle.progress.proofs.Characters.{char-at, ascii-at}
 use Rattle.progress.proofs.Walks.{byte-passes, char-passes}
-use Rattle.progress.proofs.Matches.{Small}
+use Rattle.progress.proofs.Matches.{Small, small-is}
 use Rattle.progress.proofs.Words.{plain, all-plain}
 use Rattle.longest.proofs.Language.{Step, Chain, stop, step, At, Spell, spell-bytes, bytes-spell}
 use Rattle.longest.proofs.Ends.{Right, Single, some-end, right-to, right-nothing, right-single, right-map, right-only, right-last, right-then, right-head, Then}
-use Rattle.longest.proofs.Starts.{may-be-empty, starts, step-on, step-has, step-same, step-code, chain-forward, at-first, at-ahead}
+use Rattle.longest.proofs.Starts.{may-be-empty, starts, step-on, step-has, step-same, step-code, chain-forward, at-first, at-ahead, at-single}
 
 -- ---- the characters of words
 
@@ -131,6 +131,31 @@ module _ (s : Bytes) where
   -- Steps from one offset lead to one end.
   pub step-single : {p : ℕ → Bool} {i : ℕ} → Single (Step s p i)
   step-single j k a b = step-same a b .0
+
+  -- ---- a byte of ASCII and what is behind it
+
+  -- Nothing more.
+  pub right-here : {j : ℕ} → Right (λ e. j ≡ e) (To j)
+  right-here = right-to refl (λ k h. omega arith)
+
+  -- A byte that passes a test for ASCII, and a matcher behind it.
+  pub right-byte : {p : ℕ → Bool} {Q : ℕ → ℕ → Type 0} {m : Match} → Small p → (i j : ℕ) → j ≡ i + 1 → (byte-has p s i ≡ true → Right (Q j) m)
+      → Right (Then (Step s p i) Q) (only (byte-has p s i) m)
+  right-byte {p} small i j e h =
+      right-head j (byte-has p s i) step-single
+      (subst (λ (k : ℕ). Right (Step s p i) (only (byte-has p s i) (To k))) (sym e) (byte-right small i)) h
+
+  -- The same by a test of the character.
+  pub right-has : {p : ℕ → Bool} {Q : ℕ → ℕ → Type 0} {m : Match} → Small p → (i j : ℕ) → j ≡ i + 1 → (char-has p s i ≡ true → Right (Q j) m)
+      → Right (Then (Step s p i) Q) (only (char-has p s i) m)
+  right-has {p} small i j e h =
+      right-head j (char-has p s i) step-single
+      (subst (λ (k : ℕ). Right (Step s p i) (only (char-has p s i) (To k))) (sym e) (has-right small i)) h
+
+  -- A word of one letter of ASCII, and a matcher behind it.
+  pub right-letter : {Q : ℕ → ℕ → Type 0} {m : Match} (c : ℕ) → c < 0x80 → (i j : ℕ) → j ≡ i + 1 → (byte-is c s i ≡ true → Right (Q j) m)
+      → Right (Then (At s (word (c ∷ [])) i) Q) (only (byte-is c s i) m)
+  right-letter c small i j e h = right-head j (byte-is c s i) (at-single s (word (c ∷ [])) i refl) (right-byte (small-is c small) i j e (λ _. right-here)) h
 
   -- ---- words
 
