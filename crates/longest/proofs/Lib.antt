@@ -4,3 +4,4 @@ pub mod Starts
 pub mod Shapes
 pub mod Best
 pub mod Literals
+pub mod Backticks
