@@ -216,19 +216,24 @@ best-all {P} {i} {cs} gs =
           first = λ k e a b p. absurd (omega arith);
         }
 
--- The choice of one place, where no other has an end at all.
-pub best-alone : {P : ℕ → ℕ → Type 0} {i : ℕ} (n k : ℕ) {c : Choice} → 1 ≤ k → k ≤ n → ((j e : ℕ) → (j ≡ k → ⊥) → P j e → ⊥) → (c .place ≡ k) → i < c .end
-    → Picks (P k) i k c → Best P i n c
-best-alone {P} {i} n k {c} a b others at l h =
+-- What a matcher finds for one place, where no other has an end at all and it has one.
+pub best-alone : {P : ℕ → ℕ → Type 0} {i : ℕ} (n k : ℕ) {m : Match} → 1 ≤ k → k ≤ n → ((j e : ℕ) → (j ≡ k → ⊥) → P j e → ⊥) → Right (P k) m
+    → (e : ℕ) → i < e → P k e → Best P i n (found i k 0 m)
+best-alone n k {m = Nothing} a b others r e l p = some-end (r .top e p .1)
+best-alone {P} {i} n k {m = To x} a b others r e l p =
+    let past : i < x = omega (arith, under e p) in
     record {
-      forward = h .forward;
-      small = omega arith;
+      forward = omega arith;
+      small = b;
       none = λ z. absurd (omega arith);
-      chosen = λ _. (l, subst (λ (x : ℕ). P x (c .end)) (sym at) (h .fits l .1));
-      longest = λ j e x y p. go j e p (ℕ-discrete j k);
-      first = λ j e x y p. absurd (others j e (λ q. omega arith) p);
+      chosen = λ _. (past, r .fits x refl);
+      longest = λ j y _ _ q. go j y q (ℕ-discrete j k);
+      first = λ j y _ z q. absurd (others j y (λ w. omega arith) q);
     }
   where
-    go : (j e : ℕ) → P j e → Dec (j ≡ k) → e ≤ c .end
-    go j e p (yes q) = h .top e (subst (λ (x : ℕ). P x e) q p)
-    go j e p (no d) = absurd (others j e d p)
+    under : (y : ℕ) → P k y → y ≤ x
+    under y q = let t = r .top y q in let z : x ≡ t .0 = cc (t .1) in omega (arith, t .2)
+
+    go : (j y : ℕ) → P j y → Dec (j ≡ k) → y ≤ x
+    go j y q (yes w) = under y (subst (λ (z : ℕ). P z y) w q)
+    go j y q (no d) = absurd (others j y d q)

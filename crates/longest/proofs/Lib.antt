@@ -5,3 +5,4 @@ pub mod Shapes
 pub mod Best
 pub mod Literals
 pub mod Backticks
+pub mod Families

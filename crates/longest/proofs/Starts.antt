@@ -183,10 +183,20 @@ module _ (s : Bytes) where
       let y = at-first q i k b (at-ahead q i k n b) .1 in
       d (x .code) (x .passes) (step-same x y .1)
 
-  -- A test in front that every first character passes changes nothing.
+  -- A test in front that the first character passes changes nothing.
+  pub guard-at : (r : Re) (i : ℕ) {p : ℕ → Bool} {m : Match} → may-be-empty r ≡ false
+      → ((c w : ℕ) → sequence-at s i ≡ Char c w → starts r c ≡ true → p c ≡ true) → Right (At s r i) m → Right (At s r i) (only (char-has p s i) m)
+  guard-at r i {p} n f h = right-only (char-has p s i) has (λ _. h)
+    where
+      has : (k : ℕ) → At s r i k → char-has p s i ≡ true
+      has k a =
+          let t = at-first r i k a (at-ahead r i k n a) .1 in
+          step-has {e = i + t .width} (record { code = t .code; width = t .width; read = t .read; ends = refl; passes = f (t .code) (t .width) (t .read) (t .passes) })
+
+  -- The same of one that every first character passes.
   pub guard : (r : Re) (i : ℕ) {p : ℕ → Bool} {m : Match} → may-be-empty r ≡ false → ((c : ℕ) → starts r c ≡ true → p c ≡ true)
       → Right (At s r i) m → Right (At s r i) (only (char-has p s i) m)
-  guard r i {p} n f h = right-only (char-has p s i) (λ k a. step-has (step-map f (at-first r i k a (at-ahead r i k n a) .1))) (λ _. h)
+  guard r i n f h = guard-at r i n (λ c w q t. f c t) h
 
 -- ---- characters of a list
 
