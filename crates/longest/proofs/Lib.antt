@@ -6,3 +6,5 @@ pub mod Best
 pub mod Literals
 pub mod Backticks
 pub mod Families
+pub mod Continues
+pub mod Integers
