@@ -8,3 +8,4 @@ pub mod Backticks
 pub mod Families
 pub mod Continues
 pub mod Integers
+pub mod Floats
