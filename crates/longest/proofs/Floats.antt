@@ -169,3 +169,50 @@ module _ (s : Bytes) where
   pub pointed-single : (i : ℕ) → Single (At s pointed i)
   pointed-single i =
       parted-then (λ j k. j ≡ k) (continues-parted s is-digit (digits-continue i) (text ".") refl digit-or-point) (λ m. at-single s (text ".") m refl)
+
+  -- One digit.
+  abbrev digit : ℕ → Match
+  digit k = only (byte-has is-digit s k) (To (k + 1))
+
+  -- An exponent of one digit.
+  abbrev pub short-exponent : ℕ → Match
+  short-exponent k = only (byte-has is-e s k) (digit (skip-sign s (k + 1)))
+
+  -- A number with such an exponent.
+  pub short-right : (i : ℕ) → Right (At s (scientific (chr is-digit)) i)
+      (later (match-integer s i then short-exponent)
+      ((match-integer s i then λ j. only (byte-is (ch ".") s j) (To (j + 1))) then λ k. short-exponent (star is-digit s k)))
+  unfolding is-digit
+  short-right i =
+      right-map join split
+      (right-later
+      (integer-then (exponent (chr is-digit)) refl digit-or-letter (exponent-right (chr is-digit) refl refl (byte-right s small-digit)) i)
+      (right-then (pointed-single i) (pointed-right i) (λ k _. digits-exponent (chr is-digit) refl refl (byte-right s small-digit) k)))
+    where
+      join : (e : ℕ) → At s (seq integer (exponent (chr is-digit))) i e ⊎ At s (seq pointed (seq (many (chr is-digit)) (exponent (chr is-digit)))) i e → At s (scientific (chr is-digit)) i e
+      join e (inl (m, a, b)) = (m, a, (m, inl refl, b))
+      join e (inr (x, (m, a, p), (n, b, c))) = (m, a, (n, inr (x, p, b), c))
+
+      split : (e : ℕ) → At s (scientific (chr is-digit)) i e → At s (seq integer (exponent (chr is-digit))) i e ⊎ At s (seq pointed (seq (many (chr is-digit)) (exponent (chr is-digit)))) i e
+      split e (m, a, (n, inl q, c)) = inl (m, a, subst (λ (k : ℕ). At s (exponent (chr is-digit)) k e) (sym q) c)
+      split e (m, a, (n, inr (x, p, b), c)) = inr (x, (m, a, p), (n, b, c))
+
+  -- What has a part or has it not has one end, where each has one and they exclude each other.
+  opt-single : (r q : Re) (i : ℕ) → Single (At s q i) → Single (At s (seq r q) i) → ((j k : ℕ) → At s q i j → At s (seq r q) i k → ⊥) → Single (At s (seq (opt r) q) i)
+  opt-single r q i f g never j k a b = single-alt f g never j k (opt-split r q i j a) (opt-split r q i k b)
+
+  -- An exponent of one digit has one end.
+  exponent-single : (i : ℕ) → Single (At s (exponent (chr is-digit)) i)
+  unfolding is-digit
+  exponent-single i =
+      single-then (step-single s) λ m.
+      opt-single (one-of "+-") (chr is-digit) m (step-single s) (at-single s (seq (one-of "+-") (chr is-digit)) m refl)
+      (λ j k. apart s (chr is-digit) (seq (one-of "+-") (chr is-digit)) m j k refl refl (λ c t e. none-listed (codes "+-") is-digit refl c e t))
+
+  -- So has a number with such an exponent.
+  pub short-single : (i : ℕ) → Single (At s (scientific (chr is-digit)) i)
+  short-single i =
+      parted-then (λ j k. j ≡ k) (continues-parted s is-digit (digits-continue i) (seq (opt fraction) (exponent (chr is-digit))) refl digit-or-exponent) λ m.
+      opt-single fraction (exponent (chr is-digit)) m (exponent-single m)
+      (parted-then (λ j k. j ≡ k) (continues-parted s is-digit (fraction-continues m) (exponent (chr is-digit)) refl digit-or-letter) exponent-single)
+      (λ j k. apart s (exponent (chr is-digit)) (seq fraction (exponent (chr is-digit))) m j k refl refl (none-listed (codes "eE") (λ c. eqb c (ch ".")) refl))
