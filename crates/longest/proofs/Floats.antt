@@ -161,27 +161,29 @@ module _ (s : Bytes) where
 
   -- ---- shortest parts
 
-  -- A number up to its point.
-  pub pointed-right : (i : ℕ) → Right (At s pointed i) (match-integer s i then λ j. only (byte-is (ch ".") s j) (To (j + 1)))
+  -- The matcher of a number up to its point.
+  abbrev pub match-pointed : ℕ → Match
+  match-pointed i = match-integer s i then λ j. only (byte-is (ch ".") s j) (To (j + 1))
+
+  -- It is right.
+  pub pointed-right : (i : ℕ) → Right (At s pointed i) (match-pointed i)
   pointed-right i = integer-then (text ".") refl digit-or-point (λ j. right-byte s (small-is (ch ".") (omega arith)) j (j + 1) refl (λ _. right-here s)) i
 
-  -- It has one end.
+  -- There is one end.
   pub pointed-single : (i : ℕ) → Single (At s pointed i)
   pointed-single i =
       parted-then (λ j k. j ≡ k) (continues-parted s is-digit (digits-continue i) (text ".") refl digit-or-point) (λ m. at-single s (text ".") m refl)
 
-  -- One digit.
-  abbrev digit : ℕ → Match
-  digit k = only (byte-has is-digit s k) (To (k + 1))
+  -- The matcher of an exponent of one digit.
+  abbrev short-exponent : ℕ → Match
+  short-exponent k = only (byte-has is-e s k) (only (byte-has is-digit s (skip-sign s (k + 1))) (To (skip-sign s (k + 1) + 1)))
 
-  -- An exponent of one digit.
-  abbrev pub short-exponent : ℕ → Match
-  short-exponent k = only (byte-has is-e s k) (digit (skip-sign s (k + 1)))
+  -- That of a number with such an exponent.
+  abbrev pub match-short : ℕ → Match
+  match-short i = later (match-integer s i then short-exponent) (match-pointed i then λ k. short-exponent (star is-digit s k))
 
-  -- A number with such an exponent.
-  pub short-right : (i : ℕ) → Right (At s (scientific (chr is-digit)) i)
-      (later (match-integer s i then short-exponent)
-      ((match-integer s i then λ j. only (byte-is (ch ".") s j) (To (j + 1))) then λ k. short-exponent (star is-digit s k)))
+  -- It is right.
+  pub short-right : (i : ℕ) → Right (At s (scientific (chr is-digit)) i) (match-short i)
   unfolding is-digit
   short-right i =
       right-map join split

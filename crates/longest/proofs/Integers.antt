@@ -42,23 +42,27 @@ abbrev octal-or-binary : Re
 octal-or-binary = alt (based "oO" (between (ch "0") (ch "7"))) binary
 
 -- A digit is a hexadecimal one.
-digit-hex : (c : ℕ) → is-digit c ≡ true → is-hex c ≡ true
+pub digit-hex : (c : ℕ) → is-digit c ≡ true → is-hex c ≡ true
 unfolding is-hex
 digit-hex c t = rw t refl
 
--- So is an octal one.
-octal-hex : (c : ℕ) → between (ch "0") (ch "7") c ≡ true → is-hex c ≡ true
+-- What lies between two characters lies between wider ones.
+pub between-wider : (a b n c : ℕ) → b ≤ n → between a b c ≡ true → between a n c ≡ true
+between-wider a b n c l t =
+    let h = both (leb a c) (leb c b) t in
+    let k : c ≤ n = omega (arith, leb-true c b (h .1)) in
+    both-true (leb a c) (leb c n) (h .0) (le-leb c n k)
+
+-- So an octal digit is one too.
+pub octal-hex : (c : ℕ) → between (ch "0") (ch "7") c ≡ true → is-hex c ≡ true
 unfolding is-digit
-octal-hex c t =
-    let h = both (leb (ch "0") c) (leb c (ch "7")) t in
-    let l : c ≤ ch "9" = omega (arith, leb-true c (ch "7") (h .1)) in
-    digit-hex c (both-true (leb (ch "0") c) (leb c (ch "9")) (h .0) (le-leb c (ch "9") l))
+octal-hex c t = digit-hex c (between-wider (ch "0") (ch "7") (ch "9") c (omega arith) t)
 
 -- ---- suffixes
 
 -- A word that begins with no hexadecimal digit, and that a text can be searched for.
-abbrev pub suffix : String → Bool
-suffix w = begins-with (λ c. not (is-hex c)) (codes w)
+abbrev pub is-suffix : String → Bool
+is-suffix w = begins-with (λ c. not (is-hex c)) (codes w)
 
 -- What is so of its characters.
 record Suffix (cs : List ℕ) : Type 0 where
@@ -145,7 +149,7 @@ module _ (s : Bytes) where
       apart-to e (inr (m, a, b)) = (m, inr a, b)
 
   -- An integer with a suffix.
-  pub suffix-right : (w : String) → suffix w ≡ true → (i : ℕ) → Right (At s (suffixed w) i) (match-int-suffix s i (cps w))
+  pub suffix-right : (w : String) → is-suffix w ≡ true → (i : ℕ) → Right (At s (suffixed w) i) (match-int-suffix s i (cps w))
   unfolding match-int-suffix
   suffix-right w h i = let k = suffix-is (codes w) h in behind-right (text w) (k .full) (k .other) (text-right s w (k .spelled)) i
 

@@ -9,3 +9,5 @@ pub mod Families
 pub mod Continues
 pub mod Integers
 pub mod Floats
+pub mod BadNumbers
+pub mod Numbers
