@@ -2,29 +2,27 @@
 -- it or by an integer. For `12` the pattern fits too, as 1 and then 2, and the matcher finds nothing: there the integer reaches as far.
 -- "Since digits are ident chars, the shortest float matches are the relevant ones": behind the shortest part of a number with a point
 -- or an exponent, digits are the first characters of the identifier. Rests on integers and on the shortest parts.
-use Prim.Native.Nat.{ℕ, zero, suc, _+_, _≤_, _<_}
-use mathlib.Core.Path.{_≡_, refl, sym, subst, _∙_}
-use mathlib.Core.Bool.{Bool, true, false, _||_}
-use mathlib.Core.List.{List, [], _∷_, map}
+use Prim.Native.Nat.{ℕ, zero, suc, _≤_, _<_}
+use mathlib.Core.Path.{_≡_, refl, sym, subst}
+use mathlib.Core.Bool.{Bool, true, _||_}
+use mathlib.Core.List.{List, [], _∷_}
 use mathlib.Core.Logic.{_⊎_, inl, inr}
 use native.Mathlib.Omega.{arith}
-use lib.Dec.{ltb, eqb}
+use lib.Dec.{eqb}
 use lib.ListN.{getD}
 use borrow.Author.Tests.{eqb-true, lt-ltb}
 use Rattle.definition.specs.Basics.{Bytes, ch, codes, mem-cp, between}
-use Rattle.definition.specs.Text.{byte-is, star}
 use Rattle.definition.specs.Chars.{is-digit, is-hex, is-ident-char}
-use Rattle.definition.specs.Tables.{cps}
-use Rattle.definition.specs.Matchers.{_then_, later, max-list, only, plus, match-lit, match-integer, match-xinteger, any-integer-ends, match-bad-number}
+use Rattle.definition.specs.Matchers.{_then_, later, max-list, plus, match-integer, any-integer-ends, match-bad-number}
 use Rattle.definition.specs.Regex.{Re, eps, chr, seq, alt, many, some}
-use Rattle.definition.specs.Patterns.{text, integer, xinteger, floatp, floate, ieee64, xieee64}
+use Rattle.definition.specs.Patterns.{integer, xinteger, floatp, floate, ieee64, xieee64}
 use Rattle.definition.specs.declared.Match.{Match}
 use Rattle.definition.specs.declared.Match.the-variants.{To, Nothing}
 use Rattle.lemmas.proofs.Tests.{by-order}
 use Rattle.progress.proofs.Cases.{either}
-use Rattle.progress.proofs.Matches.{small-digit, small-hex}
-use Rattle.progress.proofs.Lists.{Each, none-left, _⨾_, each-map}
-use Rattle.progress.proofs.Ends.{Ends as Each-end, ends-map, ends-then, ends-max}
+use Rattle.progress.proofs.Matches.{small-hex}
+use Rattle.progress.proofs.Lists.{none-left, _⨾_, each-map}
+use Rattle.progress.proofs.Ends.{Ends as Each-end, ends-then, ends-max}
 use Rattle.longest.proofs.Language.{Step, Chain, stop, step, At}
 use Rattle.longest.proofs.Ends.{Right, Single, single-found, right-later}
 use Rattle.longest.proofs.Starts.{left, right, step-on, step-same, step-map, chain-forward, at-ahead, listed-passes}

@@ -4,7 +4,6 @@
 use Prim.Native.Nat.{ℕ, _+_}
 use mathlib.Core.Path.{_≡_, refl, sym, subst}
 use mathlib.Core.Bool.{Bool, true, false, not, _||_}
-use mathlib.Core.List.{[], _∷_}
 use mathlib.Core.Logic.{_⊎_, inl, inr, ⊎-swap}
 use native.Mathlib.Omega.{arith}
 use lib.Dec.{eqb}
@@ -12,13 +11,13 @@ use Rattle.definition.specs.Basics.{Bytes, ch, codes, mem-cp, if_then_else_}
 use Rattle.definition.specs.Text.{byte-has, byte-is, star}
 use Rattle.definition.specs.Chars.{is-digit}
 use Rattle.definition.specs.Matchers.{_then_, later, only, match-integer, match-floatp, skip-sign, is-e, match-floate, match-real}
-use Rattle.definition.specs.Regex.{Re, eps, chr, seq, alt, many, opt}
+use Rattle.definition.specs.Regex.{Re, chr, seq, many, opt}
 use Rattle.definition.specs.Patterns.{text, one-of, integer, floatp, floate}
 use Rattle.definition.specs.declared.Match.{Match}
-use Rattle.definition.specs.declared.Match.the-variants.{To, Nothing}
+use Rattle.definition.specs.declared.Match.the-variants.{To}
 use Rattle.progress.proofs.Cases.{either}
 use Rattle.progress.proofs.Matches.{small-is, small-digit}
-use Rattle.longest.proofs.Language.{Step, At}
+use Rattle.longest.proofs.Language.{At}
 use Rattle.longest.proofs.Ends.{Right, Single, right-map, right-later, right-then, single-then, single-alt}
 use Rattle.longest.proofs.Starts.{may-be-empty, starts, at-single, apart, all-pass}
 use Rattle.longest.proofs.Shapes.{byte-right, step-single, right-here, right-byte, right-letter, star-right, run-more, star-then}

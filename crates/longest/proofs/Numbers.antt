@@ -4,15 +4,18 @@ use Prim.Native.Nat.{ℕ}
 use Prim.Native.String.{String}
 use mathlib.Core.Path.{_≡_, refl}
 use mathlib.Core.Bool.{true}
-use mathlib.Core.Logic.{_⊎_}
-use Rattle.definition.specs.Basics.{Bytes, codes}
+use mathlib.Core.Logic.{_⊎_, inl}
+use Rattle.definition.specs.Basics.{Bytes, ch, codes, loop}
+use Rattle.definition.specs.Utf8.{sequence-at, sequence}
+use Rattle.definition.specs.Text.{byte-has, star}
+use Rattle.definition.specs.Chars.{is-digit, is-ident-char}
 use Rattle.definition.specs.Tables.{cps}
-use Rattle.definition.specs.Matchers.{max-list, any-integer-ends, match-int-suffix, match-int-usuffix, match-real, match-bad-number}
+use Rattle.definition.specs.Matchers.{later, max-list, plus, one, match-integer, match-xinteger, match-floatp, match-floate, any-integer-ends, match-int-suffix, match-int-usuffix, match-real, match-bad-number}
 use Rattle.definition.specs.Regex.{seq}
 use Rattle.definition.specs.Patterns.{text, any-integer, suffixed, usuffixed, floatp, pattern, patterns}
-use Rattle.definition.specs.declared.Match.the-variants.{To}
+use Rattle.definition.specs.declared.Match.the-variants.{To, Nothing}
 use Rattle.progress.proofs.Words.{all-plain}
-use Rattle.longest.proofs.Language.{At}
+use Rattle.longest.proofs.Language.{Step, stop, At}
 use Rattle.longest.proofs.Ends.{Right}
 use Rattle.longest.proofs.Integers.{is-suffix, any-integer-right, suffix-right, usuffix-right}
 use Rattle.longest.proofs.Floats.{real-right}
@@ -43,3 +46,11 @@ numbers s f i =
 pub bad-is-27 : (f : Bytes) → pattern f 27 ≡ bad f
 unfolding pattern patterns
 bad-is-27 f = refl
+
+-- For `12` the pattern fits up to the end, as 1 and then 2, and the matcher finds nothing: an integer reaches as far.
+pub twelve : (f : Bytes) → At (codes "12") (bad f) 0 2 × (match-bad-number (codes "12") f 0 ≡ Nothing) × (max-list (any-integer-ends (codes "12") 0) ≡ To 2)
+unfolding match-bad-number match-integer match-xinteger match-floatp match-floate any-integer-ends max-list later plus one star loop sequence-at sequence byte-has is-digit is-ident-char
+twelve f =
+    let one : Step (codes "12") is-digit 0 1 = record { code = ch "1"; width = 1; read = refl; ends = refl; passes = refl } in
+    let two : Step (codes "12") (is-ident-char f) 1 2 = record { code = ch "2"; width = 1; read = refl; ends = refl; passes = refl } in
+    ((1, inl (1, one, stop refl), (2, two, stop refl)), refl, refl)
