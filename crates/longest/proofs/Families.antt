@@ -23,7 +23,7 @@ use Rattle.progress.proofs.Words.{all-plain}
 use Rattle.longest.proofs.Language.{Step, Chain, At}
 use Rattle.longest.proofs.Ends.{Right, right-then, Then}
 use Rattle.longest.proofs.Starts.{may-be-empty, starts, at-single, at-forward, guard, all-pass, listed-passes, one-way}
-use Rattle.longest.proofs.Shapes.{has-byte, one-right, step-single, right-letter, text-right, star-right}
+use Rattle.longest.proofs.Shapes.{has-byte, one-right, step-single, right-here, right-has, right-letter, text-right, star-right}
 use Rattle.longest.proofs.Best.{Picks, picks-map, One-of, all-words, picks-table}
 
 -- A word is matched in one way.
@@ -62,17 +62,16 @@ module _ (s : Bytes) where
       → ((j : ℕ) → Right (Q j) (f j)) → Right (Then (At s (text w) i) Q) (match-lit s (cps w) i then f)
   word-then w i p h = right-then (at-single s (text w) i (word-one-way (codes w))) (text-right s w p i) (λ j _. h j)
 
-  -- A word with a test for its first character in front.
-  pub word-right : (w : String) (i : ℕ) {p : ℕ → Bool} → all-plain (codes w) ≡ true → may-be-empty (text w) ≡ false → ((c : ℕ) → starts (text w) c ≡ true → p c ≡ true)
-      → Right (At s (text w) i) (only (char-has p s i) (match-lit s (cps w) i))
-  word-right w i p n g = guard s (text w) i n g (text-right s w p i)
-
   -- A letter of ASCII that is tested as a character, and a matcher behind it.
   pub letter-then : {Q : ℕ → ℕ → Type 0} {m : Match} (c i : ℕ) → c < 0x80 → Right (Q (i + 1)) m
       → Right (Then (At s (word (c ∷ [])) i) Q) (only (char-has (λ x. eqb x c) s i) m)
   letter-then {Q} {m} c i small h =
       subst (λ (t : Bool). Right (Then (At s (word (c ∷ [])) i) Q) (only t m)) (sym (has-byte s (small-is c small) i))
       (right-letter s c small i (i + 1) refl (λ _. h))
+
+  -- The same with nothing behind it.
+  pub letter-right : (c i : ℕ) → c < 0x80 → Right (At s (word (c ∷ [])) i) (only (char-has (λ x. eqb x c) s i) (To (i + 1)))
+  letter-right c i small = right-has s (small-is c small) i (i + 1) refl (λ _. right-here s)
 
   -- ---- tables
 

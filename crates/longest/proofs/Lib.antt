@@ -6,3 +6,4 @@ pub mod Best
 pub mod Literals
 pub mod Backticks
 pub mod Families
+pub mod Places

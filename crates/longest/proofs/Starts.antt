@@ -42,12 +42,12 @@ starts (many r) c = starts r c
 -- ---- tests
 
 -- A disjunction passes where its first test does, or where its second does.
-left : (a b : Bool) → a ≡ true → a || b ≡ true
+pub left : (a b : Bool) → a ≡ true → a || b ≡ true
 left true b e = refl
 left false b e = absurd (false≢true e)
 
 -- The same of its second.
-right : (a b : Bool) → b ≡ true → a || b ≡ true
+pub right : (a b : Bool) → b ≡ true → a || b ≡ true
 right true b e = refl
 right false b e = e
 
