@@ -7,3 +7,4 @@ pub mod Literals
 pub mod Backticks
 pub mod Families
 pub mod Places
+pub mod Choosing
