@@ -1,22 +1,22 @@
 -- A name in backticks: the loop that reads it finds the one end of its pattern. Each turn is decided by the characters that stand there:
 -- one that the name may have, one behind a backtick, or neither. Rests on the shapes and on the laws of loops.
-use Prim.Native.Nat.{ℕ, suc, _+_, _-_, _≤_, _<_}
-use mathlib.Core.Path.{_≡_, refl, sym, ap, subst, _∙_}
-use mathlib.Core.Bool.{Bool, true, false, not, _&&_, false≢true}
+use Prim.Native.Nat.{ℕ, _+_, _-_, _≤_, _<_}
+use mathlib.Core.Path.{_≡_, refl, sym, subst, _∙_}
+use mathlib.Core.Bool.{Bool, true, not, _&&_}
 use mathlib.Core.Logic.{_⊎_, inl, inr}
 use native.Mathlib.Omega.{arith}
 use lib.Dec.{ltb, eqb}
 use lib.ListN.{length}
 use borrow.Author.Tests.{lt-ltb, ltb-true}
-use Rattle.definition.specs.Basics.{Bytes, Turn, again, done, loop, fuel, ch}
+use Rattle.definition.specs.Basics.{Bytes, Turn, loop, fuel, ch}
 use Rattle.definition.specs.Text.{byte-is}
 use Rattle.definition.specs.Chars.{is-newline-char}
 use Rattle.definition.specs.Matchers.{only, one, backtick-turn, match-backtick-ident}
-use Rattle.definition.specs.Regex.{Re, chr, seq, alt, some}
+use Rattle.definition.specs.Regex.{Re, seq, alt, some}
 use Rattle.definition.specs.Patterns.{text, plain}
 use Rattle.definition.specs.declared.Match.{Match}
 use Rattle.definition.specs.declared.Match.the-variants.{To, Nothing}
-use Rattle.progress.proofs.Cases.{by-match, both}
+use Rattle.progress.proofs.Cases.{by-match}
 use Rattle.progress.proofs.Loops.{Leads, Falls, loop-gives}
 use Rattle.progress.proofs.Matches.{small-is}
 use Rattle.longest.proofs.Language.{Step, Chain, stop, step, At}
@@ -109,11 +109,10 @@ module _ (s : Bytes) where
 
     -- An item that a turn reads is one more, and the rest gets shorter.
     turn-on : (j n k : ℕ) → Kept (j, n) → At s item j k → Kept (k, n + 1) × (length s - k < length s - j)
-    turn-on j n k h a =
-        (
-          record { to = λ e x. read-on j n k a e (h .to e x); from = λ e x. h .from e (read-back j n k a e x) },
-          omega (arith, at-ahead s item j k refl a, item-within j k a),
-        )
+    turn-on j n k h a = (
+      record { to = λ e x. read-on j n k a e (h .to e x); from = λ e x. h .from e (read-back j n k a e x) },
+      omega (arith, at-ahead s item j k refl a, item-within j k a),
+    )
 
     -- Each turn reads an item, or answers rightly.
     turns : Falls (backtick-turn s) Kept (λ a. length s - a .0) (Right (Left start))

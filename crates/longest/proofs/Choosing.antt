@@ -2,25 +2,25 @@
 -- On the fast paths, that no other place permits anything is read off the patterns' first characters, which are computed.
 -- Rests on the places and on the choice among them.
 use Prim.Native.Nat.{ℕ, zero, suc, _+_, _≤_, _<_}
-use mathlib.Core.Path.{_≡_, refl, sym, ap, subst, _∙_}
+use mathlib.Core.Path.{_≡_, refl, sym, subst, _∙_}
 use mathlib.Core.Bool.{Bool, true, false, not, _&&_, _||_, false≢true}
 use mathlib.Core.List.{List, [], _∷_}
-use mathlib.Core.Logic.{_⊎_, inl, inr, _↔_}
+use mathlib.Core.Logic.{inl, inr}
 use native.Mathlib.Decide.{ℕ-discrete}
 use native.Mathlib.Nat.{add-zero}
 use native.Mathlib.Omega.{arith}
-use lib.Dec.{eqb, leb, ltb}
+use lib.Dec.{eqb, ltb}
 use lib.ListN.{length, getD, List·getD-eq-default}
-use borrow.Author.Tests.{eqb-true, eqb-false, ltb-true, ltb-false, not-true}
-use Rattle.definition.specs.Basics.{Bytes, ch, codes, mem-cp, between}
+use borrow.Author.Tests.{eqb-true, eqb-false, not-true}
+use Rattle.definition.specs.Basics.{Bytes, ch, mem-cp}
 use Rattle.definition.specs.Utf8.{sequence-at}
 use Rattle.definition.specs.Text.{char-has}
-use Rattle.definition.specs.Chars.{ascii-limit, count-up, ascii-table, in-table, is-digit, is-op-char, is-symbolchar, is-lower, is-ident-start, is-constructor-start, is-anywhite, is-newline-char, is-uoperator}
+use Rattle.definition.specs.Chars.{count-up, ascii-table, in-table, is-digit, is-op-char, is-lower, is-ident-start, is-constructor-start, is-anywhite, is-newline-char, is-uoperator}
 use Rattle.definition.specs.Tables.{early-literals, kw-op-rules, op-tokens, mixfix-rules}
 use Rattle.definition.specs.Matchers.{plus, match-newline}
 use Rattle.definition.specs.Select.{none-at, found, try-all, places, select}
-use Rattle.definition.specs.Regex.{Re, chr, some, never, Permits}
-use Rattle.definition.specs.Patterns.{nl, patterns, pattern}
+use Rattle.definition.specs.Regex.{Re, never}
+use Rattle.definition.specs.Patterns.{patterns, pattern}
 use Rattle.definition.specs.Longest.{Permitted, Longest}
 use Rattle.definition.specs.declared.Choice.{Choice}
 use Rattle.definition.specs.declared.Sequence.the-variants.{Char}
@@ -30,11 +30,11 @@ use Rattle.lemmas.proofs.Tests.{by-order}
 use Rattle.progress.proofs.Cases.{by-test, by-lt, both, either}
 use Rattle.progress.proofs.Lists.{Numbered, no-more, _⨟_}
 use Rattle.progress.proofs.Walks.{char-passes}
-use Rattle.longest.proofs.Language.{Step, Chain, stop, step, At, at-permits, permits-at}
-use Rattle.longest.proofs.Ends.{Right, right-to, right-nothing, right-map}
+use Rattle.longest.proofs.Language.{Step, stop, At, at-permits, permits-at}
+use Rattle.longest.proofs.Ends.{Right, right-to, right-nothing}
 use Rattle.longest.proofs.Starts.{may-be-empty, starts, at-ahead, at-first, step-code, step-on}
 use Rattle.longest.proofs.Shapes.{plus-right}
-use Rattle.longest.proofs.Best.{Picks, Sound, picks-sound, end-of, Best, best-all, best-alone}
+use Rattle.longest.proofs.Best.{Picks, Sound, picks-sound, Best, best-all, best-alone}
 use Rattle.longest.proofs.Literals.{newline-right}
 use Rattle.longest.proofs.Places.{Numbers, white-fast, line-fast, Slow, Has, chosen, Place, right-one, special, all-places}
 
@@ -80,36 +80,35 @@ pub pattern-ahead : (s f : Bytes) (k i e : ℕ) → At s (pattern f k) i e → i
 unfolding pattern
 pattern-ahead s f k i e a = at-ahead s (getD (all-patterns f) k never) i e (full-at (all-patterns f) (patterns-full f) k) a
 
--- Only place 7 may begin with white space of ASCII.
-white-only : (f : Bytes) (c : ℕ) → white-fast c ≡ true → only-one 7 0 (all-patterns f) c ≡ true
+-- ---- the characters of the fast paths
+
+-- What holds of a character holds of one that passes the test for it.
+at-char : (P : ℕ → Type 0) {a c : ℕ} → P a → eqb c a ≡ true → P c
+at-char P {a} {c} h e = subst P (sym (eqb-true c a e)) h
+
+-- White space of ASCII, character by character.
+by-white : (P : ℕ → Type 0) → P (ch " ") → P (ch "\t") → P 11 → P 12 → (c : ℕ) → white-fast c ≡ true → P c
+by-white P w x y z c =
+    either (eqb c (ch " ")) _ (at-char P w) (either (eqb c (ch "\t")) _ (at-char P x) (either (eqb c 11) (eqb c 12) (at-char P y) (at-char P z)))
+
+-- The line ends of ASCII.
+by-line : (P : ℕ → Type 0) → P (ch "\n") → P (ch "\r") → (c : ℕ) → line-fast c ≡ true → P c
+by-line P x y c = either (eqb c (ch "\n")) (eqb c (ch "\r")) (at-char P x) (at-char P y)
+
+-- Only place 7 may begin with such white space, and only place 8 with such a line end.
+fast-only : (f : Bytes)
+    → ((c : ℕ) → white-fast c ≡ true → only-one 7 0 (all-patterns f) c ≡ true)
+    × ((c : ℕ) → line-fast c ≡ true → only-one 8 0 (all-patterns f) c ≡ true)
 unfolding patterns early-literals kw-op-rules op-tokens mixfix-rules is-digit is-op-char in-table ascii-table count-up mem-cp is-lower is-ident-start is-constructor-start is-anywhite is-newline-char is-uoperator
-white-only f c =
-    either (eqb c (ch " ")) _ (at (ch " ") refl)
-    (either (eqb c (ch "\t")) _ (at (ch "\t") refl) (either (eqb c 11) (eqb c 12) (at 11 refl) (at 12 refl)))
-  where
-    at : (a : ℕ) → only-one 7 0 (all-patterns f) a ≡ true → eqb c a ≡ true → only-one 7 0 (all-patterns f) c ≡ true
-    at a h e = subst (λ (x : ℕ). only-one 7 0 (all-patterns f) x ≡ true) (sym (eqb-true c a e)) h
+fast-only f = (
+  by-white (λ c. only-one 7 0 (all-patterns f) c ≡ true) refl refl refl refl,
+  by-line (λ c. only-one 8 0 (all-patterns f) c ≡ true) refl refl,
+)
 
--- Only place 8 may begin with a line end of ASCII.
-line-only : (f : Bytes) (c : ℕ) → line-fast c ≡ true → only-one 8 0 (all-patterns f) c ≡ true
-unfolding patterns early-literals kw-op-rules op-tokens mixfix-rules is-digit is-op-char in-table ascii-table count-up mem-cp is-lower is-ident-start is-constructor-start is-anywhite is-newline-char is-uoperator
-line-only f c = either (eqb c (ch "\n")) (eqb c (ch "\r")) (at (ch "\n") refl) (at (ch "\r") refl)
-  where
-    at : (a : ℕ) → only-one 8 0 (all-patterns f) a ≡ true → eqb c a ≡ true → only-one 8 0 (all-patterns f) c ≡ true
-    at a h e = subst (λ (x : ℕ). only-one 8 0 (all-patterns f) x ≡ true) (sym (eqb-true c a e)) h
-
--- What the fast path takes for white space is white space.
-fast-white : (f : Bytes) (c : ℕ) → white-fast c ≡ true → is-anywhite f c ≡ true
-unfolding is-anywhite
-fast-white f c =
-    either (eqb c (ch " ")) _ (λ e. rw (eqb-true c (ch " ") e))
-    (either (eqb c (ch "\t")) _ (λ e. rw (eqb-true c (ch "\t") e))
-    (either (eqb c 11) (eqb c 12) (λ e. rw (eqb-true c 11 e)) (λ e. rw (eqb-true c 12 e))))
-
--- What it takes for a line end is a line end.
-fast-line : (c : ℕ) → line-fast c ≡ true → is-newline-char c ≡ true
-unfolding is-newline-char
-fast-line c = either (eqb c (ch "\n")) (eqb c (ch "\r")) (λ e. rw (eqb-true c (ch "\n") e)) (λ e. rw (eqb-true c (ch "\r") e))
+-- They are white space, and a line end.
+fast-is : (f : Bytes) → ((c : ℕ) → white-fast c ≡ true → is-anywhite f c ≡ true) × ((c : ℕ) → line-fast c ≡ true → is-newline-char c ≡ true)
+unfolding is-anywhite is-newline-char
+fast-is f = (by-white (λ c. is-anywhite f c ≡ true) refl refl refl refl, by-line (λ c. is-newline-char c ≡ true) refl refl)
 
 -- ---- one place and its choice
 
@@ -156,6 +155,58 @@ module _ (s f : Bytes) (i : ℕ) where
       past : 50 ≤ k → getD (patterns f) k never ≡ never
       past h = List·getD-eq-default (patterns f) never {n = k} h
 
+  -- ---- the fast paths
+
+  -- Where a character stands with which only place k begins, no other has an end.
+  alone : (k c w : ℕ) → sequence-at s i ≡ Char c w → only-one k 0 (all-patterns f) c ≡ true → (j e : ℕ) → (j ≡ k → ⊥) → Has s f i j e → ⊥
+  unfolding pattern
+  alone k c w q h j e d a =
+      let t = at-first s (getD (all-patterns f) j never) i e a (pattern-ahead s f j i e a) .1 in
+      let z : 0 + j ≡ j = omega arith in
+      false≢true (sym (other-at k 0 (all-patterns f) c h j (λ x. d (sym z ∙ x))) ∙ step-code q t .1)
+
+  -- So what place k finds is the best, if its pattern permits that character alone.
+  fast-best : (p q : ℕ → Bool) (k : ℕ) {m : Match} → 1 ≤ k → k ≤ 50 → ((c : ℕ) → p c ≡ true → only-one k 0 (all-patterns f) c ≡ true)
+      → ((c : ℕ) → p c ≡ true → q c ≡ true) → Right (Has s f i k) m → ((e : ℕ) → Step s q i e → Has s f i k e)
+      → char-has p s i ≡ true → Best (Has s f i) i 50 (found i k 0 m)
+  fast-best p q k a b only passes r permits t =
+      let c = char-passes p s i t in
+      let e = i + c .width in
+      let first : Step s q i e = record { code = c .code; width = c .width; read = c .read; ends = refl; passes = passes (c .code) (c .passes) } in
+      best-alone 50 k a b (alone k (c .code) (c .width) (c .read) (only (c .code) (c .passes))) r e (step-on first .0) (permits e first)
+
+  -- White space of ASCII.
+  white-best : char-has white-fast s i ≡ true → Best (Has s f i) i 50 (found i 7 0 (plus (is-anywhite f) s i))
+  unfolding pattern patterns
+  white-best =
+      fast-best white-fast (is-anywhite f) 7 (omega arith) (omega arith) (fast-only f .0) (fast-is f .0) (plus-right s (is-anywhite f) i) (λ e h. (e, h, stop refl))
+
+  -- A line end of ASCII.
+  line-best : char-has line-fast s i ≡ true → Best (Has s f i) i 50 (found i 8 0 (match-newline s i))
+  unfolding pattern patterns
+  line-best = fast-best line-fast is-newline-char 8 (omega arith) (omega arith) (fast-only f .1) (fast-is f .1) (newline-right s i) (λ e h. inr h)
+
+  -- What is best among the places is the longest that is permitted.
+  best-longest : {c : Choice} → i ≤ length s → Best (Has s f i) i 50 c → Longest s f i c
+  best-longest {c} h b = record {
+    place = b .small;
+    nothing = (λ z k e l p. omega (arith, b .none z, longest k e p), none);
+    ahead = λ d. b .chosen d .0;
+    fits = λ d. at-permits s (pattern f (c .place)) i (c .end) h (b .chosen d .1);
+    longest = longest;
+    first = λ k l p. let a = permits-at s (pattern f k) i (c .end) p in omega (arith, b .first k (c .end) (place-range k (c .end) a .0) l a);
+  }
+    where
+      longest : (k e : ℕ) → Permitted s f k i e → e ≤ c .end
+      longest k e p = let a = permits-at s (pattern f k) i e p in let r = place-range k e a in b .longest k e (r .0) (r .1) a
+
+      none : ((k e : ℕ) → i < e → Permitted s f k i e → ⊥) → c .place ≡ 0
+      none g = go (ℕ-discrete (c .place) 0)
+        where
+          go : Dec (c .place ≡ 0) → c .place ≡ 0
+          go (yes z) = z
+          go (no d) = let x = b .chosen d in absurd (g (c .place) (c .end) (x .0) (at-permits s (pattern f (c .place)) i (c .end) h (x .1)))
+
   module _ (n : Numbers s f i) where
     -- Each place but three chooses the longest end of its pattern.
     place-picks : (k : ℕ) → (k ≡ 7 → ⊥) → (k ≡ 8 → ⊥) → (k ≡ 27 → ⊥) → Picks (Has s f i k) i k (getD (none-at i ∷ places s f i) k (none-at i))
@@ -198,54 +249,6 @@ module _ (s f : Bytes) (i : ℕ) where
     slow-best : Slow s i → Best (Has s f i) i 50 (try-all (places s f i) (none-at i))
     unfolding places
     slow-best h = best-all (numbered-map (λ k c. place-sound h) (all-places s f i n))
-
-    -- Where a character stands with which only place k begins, no other has an end.
-    alone : (k c w : ℕ) → sequence-at s i ≡ Char c w → only-one k 0 (all-patterns f) c ≡ true → (j e : ℕ) → (j ≡ k → ⊥) → Has s f i j e → ⊥
-    unfolding pattern
-    alone k c w q h j e d a =
-        let r = getD (all-patterns f) j never in
-        let t = at-first s r i e a (pattern-ahead s f j i e a) .1 in
-        let z : 0 + j ≡ j = omega arith in
-        false≢true (sym (other-at k 0 (all-patterns f) c h j (λ x. d (sym z ∙ x))) ∙ step-code q t .1)
-
-    -- White space of ASCII.
-    white-best : char-has white-fast s i ≡ true → Best (Has s f i) i 50 (found i 7 0 (plus (is-anywhite f) s i))
-    unfolding pattern patterns
-    white-best t =
-        let c = char-passes white-fast s i t in
-        let first : Step s (is-anywhite f) i (i + c .width) = record { code = c .code; width = c .width; read = c .read; ends = refl; passes = fast-white f (c .code) (c .passes) } in
-        best-alone 50 7 (omega arith) (omega arith) (alone 7 (c .code) (c .width) (c .read) (white-only f (c .code) (c .passes)))
-        (plus-right s (is-anywhite f) i) (i + c .width) (step-on first .0) (i + c .width, first, stop refl)
-
-    -- A line end of ASCII.
-    line-best : char-has line-fast s i ≡ true → Best (Has s f i) i 50 (found i 8 0 (match-newline s i))
-    unfolding pattern patterns
-    line-best t =
-        let c = char-passes line-fast s i t in
-        let first : Step s is-newline-char i (i + c .width) = record { code = c .code; width = c .width; read = c .read; ends = refl; passes = fast-line (c .code) (c .passes) } in
-        best-alone 50 8 (omega arith) (omega arith) (alone 8 (c .code) (c .width) (c .read) (line-only f (c .code) (c .passes)))
-        (newline-right s i) (i + c .width) (step-on first .0) (inr first)
-
-    -- What is best among the places is the longest that is permitted.
-    best-longest : {c : Choice} → i ≤ length s → Best (Has s f i) i 50 c → Longest s f i c
-    best-longest {c} h b = record {
-      place = b .small;
-      nothing = (λ z k e l p. omega (arith, b .none z, longest k e p), none);
-      ahead = λ d. b .chosen d .0;
-      fits = λ d. at-permits s (pattern f (c .place)) i (c .end) h (b .chosen d .1);
-      longest = longest;
-      first = λ k l p. let a = permits-at s (pattern f k) i (c .end) p in omega (arith, b .first k (c .end) (place-range k (c .end) a .0) l a);
-    }
-      where
-        longest : (k e : ℕ) → Permitted s f k i e → e ≤ c .end
-        longest k e p = let a = permits-at s (pattern f k) i e p in let r = place-range k e a in b .longest k e (r .0) (r .1) a
-
-        none : ((k e : ℕ) → i < e → Permitted s f k i e → ⊥) → c .place ≡ 0
-        none g = go (ℕ-discrete (c .place) 0)
-          where
-            go : Dec (c .place ≡ 0) → c .place ≡ 0
-            go (yes z) = z
-            go (no d) = let x = b .chosen d in absurd (g (c .place) (c .end) (x .0) (at-permits s (pattern f (c .place)) i (c .end) h (x .1)))
 
     -- The choice of `select`, wherever it starts.
     pub choice-longest : i ≤ length s → Longest s f i (select s f i)

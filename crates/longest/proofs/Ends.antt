@@ -1,7 +1,7 @@
 -- A matcher's answer is right: it is the greatest of the ends that there are, or that there are none. One law for each way of putting
 -- matchers together, over any ends. Rests on the definition of those ways alone.
 use Prim.Native.Nat.{ℕ, _≤_, _<_}
-use mathlib.Core.Path.{_≡_, refl, sym, subst, _∙_}
+use mathlib.Core.Path.{_≡_, refl, subst}
 use mathlib.Core.Bool.{Bool, true, false, _&&_, false≢true}
 use mathlib.Core.Logic.{_⊎_, inl, inr}
 use native.Mathlib.Omega.{arith}

@@ -1,28 +1,27 @@
 -- The families of places that are one shape with other characters: names, operators behind a first character or a word, words behind
 -- a test, and tables of words. Rests on the shapes and on the choice among the words of a table.
-use Prim.Native.Nat.{ℕ, _+_, _≤_, _<_}
+use Prim.Native.Nat.{ℕ, _+_, _<_}
 use Prim.Native.String.{String}
-use mathlib.Core.Path.{_≡_, refl, sym, subst, _∙_}
-use mathlib.Core.Bool.{Bool, true, false, false≢true}
-use mathlib.Core.List.{List, [], _∷_, map}
-use mathlib.Core.Logic.{_⊎_, inl, inr}
-use native.Mathlib.Omega.{arith}
+use mathlib.Core.Path.{_≡_, refl, sym, subst}
+use mathlib.Core.Bool.{Bool, true, false≢true}
+use mathlib.Core.List.{List, [], _∷_}
+use mathlib.Core.Logic.{inl, inr}
 use lib.Dec.{eqb}
 use Rattle.definition.specs.Basics.{Bytes, codes, mem-cp}
-use Rattle.definition.specs.Text.{char-has, byte-is, star}
+use Rattle.definition.specs.Text.{char-has, star}
 use Rattle.definition.specs.Chars.{is-op-char, is-symbolchar, is-ident-start, is-constructor-start, is-ident-char}
 use Rattle.definition.specs.Tables.{Entry, cps}
 use Rattle.definition.specs.Matchers.{_then_, only, one, match-lit, match-ident, match-constructor}
-use Rattle.definition.specs.Select.{none-at, try-words, one-of-then-symbols, lit-then-symbols}
-use Rattle.definition.specs.Regex.{Re, chr, seq, word}
+use Rattle.definition.specs.Select.{none-at, try-words, one-of-then-symbols}
+use Rattle.definition.specs.Regex.{Re, seq, word}
 use Rattle.definition.specs.Patterns.{text, one-of, one-word, identifier, constructor, symbols}
 use Rattle.definition.specs.declared.Match.{Match}
-use Rattle.definition.specs.declared.Match.the-variants.{To, Nothing}
+use Rattle.definition.specs.declared.Match.the-variants.{To}
 use Rattle.progress.proofs.Matches.{small-is}
 use Rattle.progress.proofs.Words.{all-plain}
 use Rattle.longest.proofs.Language.{Step, Chain, At}
 use Rattle.longest.proofs.Ends.{Right, right-then, Then}
-use Rattle.longest.proofs.Starts.{may-be-empty, starts, at-single, at-forward, guard, all-pass, listed-passes, one-way}
+use Rattle.longest.proofs.Starts.{at-single, at-forward, guard, all-pass, listed-passes, one-way}
 use Rattle.longest.proofs.Shapes.{has-byte, one-right, step-single, right-here, right-has, right-letter, text-right, star-right}
 use Rattle.longest.proofs.Best.{Picks, picks-map, One-of, all-words, picks-table}
 

@@ -1,31 +1,30 @@
 -- A line end, a character literal and a name in backticks: what each matcher finds is the longest end of its pattern.
 -- Rests on the shapes and on the laws of loops.
-use Prim.Native.Nat.{ℕ, _+_, _-_, _≤_, _<_}
+use Prim.Native.Nat.{ℕ, _+_, _≤_}
 use mathlib.Core.Path.{_≡_, refl, sym, ap, subst, _∙_}
 use mathlib.Core.Bool.{Bool, true, false, not, _&&_, _||_, false≢true}
-use mathlib.Core.List.{List, [], _∷_}
-use mathlib.Core.Logic.{_⊎_, inl, inr}
+use mathlib.Core.List.{List}
+use mathlib.Core.Logic.{inl, inr}
 use native.Mathlib.Omega.{arith}
-use lib.Dec.{ltb, eqb}
-use lib.ListN.{length}
+use lib.Dec.{eqb}
 use borrow.Author.Tests.{eqb-true, not-true}
-use Rattle.definition.specs.Basics.{Bytes, ch, codes, mem-cp, if_then_else_}
+use Rattle.definition.specs.Basics.{Bytes, ch, codes, mem-cp}
 use Rattle.definition.specs.Utf8.{sequence-at}
 use Rattle.definition.specs.Text.{with-char, char-has, byte-has, byte-is}
 use Rattle.definition.specs.Chars.{is-hex, is-newline-char}
-use Rattle.definition.specs.Matchers.{_then_, only, one, match-newline, match-escape, match-char, match-char-lit}
-use Rattle.definition.specs.Regex.{Re, chr, seq, alt, word}
-use Rattle.definition.specs.Patterns.{text, one-of, nl, escape-char, any-char}
+use Rattle.definition.specs.Matchers.{only, one, match-newline, match-escape, match-char, match-char-lit}
+use Rattle.definition.specs.Regex.{Re, chr, seq, alt}
+use Rattle.definition.specs.Patterns.{text, nl, escape-char, any-char}
 use Rattle.definition.specs.declared.Sequence.{Sequence}
 use Rattle.definition.specs.declared.Sequence.the-variants.{Char, Bad, End}
 use Rattle.definition.specs.declared.Match.{Match}
 use Rattle.definition.specs.declared.Match.the-variants.{To, Nothing}
 use Rattle.progress.proofs.Cases.{by-test, both, either}
-use Rattle.progress.proofs.Matches.{Small, small-is, small-mem, small-hex}
+use Rattle.progress.proofs.Matches.{small-is, small-mem, small-hex}
 use Rattle.longest.proofs.Language.{Step, At}
 use Rattle.longest.proofs.Ends.{Right, Single, right-to, right-nothing, right-map, right-both, right-else, right-elim, right-if, right-then, Then, single-then, single-alt}
-use Rattle.longest.proofs.Starts.{may-be-empty, starts, step-same, step-code, at-single, at-first, at-ahead, apart}
-use Rattle.longest.proofs.Shapes.{byte-step, byte-right, has-byte, has-right, one-right, step-single, right-here, right-byte, right-has, right-letter}
+use Rattle.longest.proofs.Starts.{step-same, step-code, at-single, at-first, at-ahead, apart}
+use Rattle.longest.proofs.Shapes.{byte-step, byte-right, has-byte, one-right, step-single, right-here, right-byte, right-has, right-letter}
 
 -- A character that a test doesn't pass is none that passes it.
 pub not-both : (p : ℕ → Bool) (a : ℕ) → p a ≡ false → (c : ℕ) → p c ≡ true → eqb c a ≡ true → ⊥

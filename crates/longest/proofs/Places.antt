@@ -1,7 +1,7 @@
 -- The 50 places, a line for each: what it chooses is the longest end of its pattern. Three lines are special. Places 7 and 8 ask for a
 -- character beyond ASCII, which is right only where neither fast path was taken; place 27 leaves out what place 16 reaches.
 -- Rests on the shapes, the families and, for places 16 to 27, on the record `Numbers`, which Numbers.antt proves.
-use Prim.Native.Nat.{ℕ, suc, _+_, _≤_, _<_}
+use Prim.Native.Nat.{ℕ, _+_, _≤_, _<_}
 use Prim.Native.Char.{Char as Letter}
 use Prim.Native.String.{String}
 use mathlib.Core.Path.{_≡_, refl, sym, ap, subst, _∙_}
@@ -10,16 +10,15 @@ use mathlib.Core.List.{List, [], _∷_}
 use mathlib.Core.Logic.{_⊎_, inl, inr}
 use native.Mathlib.Omega.{arith}
 use lib.Dec.{eqb, leb}
-use lib.ListN.{length, getD}
-use borrow.Author.Tests.{eqb-true, leb-false, le-leb, lt-leb}
-use Rattle.definition.specs.Basics.{Bytes, ch, codes, mem-cp, between}
+use borrow.Author.Tests.{eqb-true, le-leb, lt-leb}
+use Rattle.definition.specs.Basics.{Bytes, ch, codes, mem-cp}
 use Rattle.definition.specs.Utf8.{sequence-at}
 use Rattle.definition.specs.Text.{char-has}
 use Rattle.definition.specs.ClassFile.{is-zs}
 use Rattle.definition.specs.Chars.{ascii-limit, count-up, ascii-table, in-table, is-digit, is-hex, is-op-char, is-symbolchar, is-ident-char, is-anywhite, is-newline-char, is-uoperator}
 use Rattle.definition.specs.Tables.{cps, early-literals, kw-op-rules, op-tokens, mixfix-rules}
-use Rattle.definition.specs.Matchers.{only, max-list, match-lit, any-integer-ends, match-int-suffix, match-int-usuffix, match-real, match-bad-number, plus, match-newline, match-ident}
-use Rattle.definition.specs.Select.{none-at, found, one-of-then-symbols, lit-then-symbols, places}
+use Rattle.definition.specs.Matchers.{only, max-list, match-lit, any-integer-ends, match-int-suffix, match-int-usuffix, match-real, match-bad-number, plus, match-newline}
+use Rattle.definition.specs.Select.{found, one-of-then-symbols, lit-then-symbols, places}
 use Rattle.definition.specs.Regex.{Re, chr, seq, alt, some}
 use Rattle.definition.specs.Patterns.{text, one-of, nl, identifier, constructor, symbols, any-char, integer, xinteger, any-integer, suffixed, usuffixed, floatp, ieee64, xieee64, plain, patterns, pattern}
 use Rattle.definition.specs.declared.Choice.{Choice}
@@ -27,10 +26,10 @@ use Rattle.definition.specs.declared.Sequence.the-variants.{Char}
 use Rattle.definition.specs.declared.Match.{Match}
 use Rattle.definition.specs.declared.Match.the-variants.{To, Nothing}
 use Rattle.lemmas.proofs.Tests.{by-order}
-use Rattle.progress.proofs.Cases.{by-test, both, either}
+use Rattle.progress.proofs.Cases.{by-test, either}
 use Rattle.progress.proofs.Lists.{Numbered, no-more, _⨟_}
 use Rattle.progress.proofs.Words.{all-plain}
-use Rattle.longest.proofs.Language.{Step, At}
+use Rattle.longest.proofs.Language.{At}
 use Rattle.longest.proofs.Ends.{Right, some-end, right-later}
 use Rattle.longest.proofs.Starts.{left, right, may-be-empty, starts, all-pass, at-forward, guard, guard-at, at-first, at-ahead, step-has, step-map}
 use Rattle.longest.proofs.Shapes.{one-right, text-right, plus-right, star-right}

@@ -3,37 +3,36 @@
 use Prim.Native.Nat.{ℕ, suc, _+_, _≤_, _<_}
 use Prim.Native.String.{String}
 use mathlib.Core.Path.{_≡_, refl, sym, ap, subst, _∙_}
-use mathlib.Core.Bool.{Bool, true, false, _&&_, _||_, false≢true}
+use mathlib.Core.Bool.{Bool, true, false, _&&_, false≢true}
 use mathlib.Core.List.{List, [], _∷_, _++_}
-use mathlib.Core.Logic.{_⊎_, inl, inr}
+use mathlib.Core.Logic.{inl}
 use native.Mathlib.Nat.{add-zero}
 use native.Mathlib.Numerals.{add-one}
 use native.Mathlib.Omega.{arith}
 use lib.Dec.{ltb, leb, eqb}
 use lib.ListN.{length, getD, drop, length-drop}
 use lib.Seq.{drop-cons, drop-drop, getD-drop}
-use borrow.Author.Tests.{eqb-true, eq-eqb, lt-ltb, ltb-true, leb-true}
+use borrow.Author.Tests.{eqb-true, eq-eqb, lt-ltb, ltb-true}
 use Rattle.definition.specs.Basics.{Bytes, codes}
-use Rattle.definition.specs.Utf8.{encode, encode-all, Scalar, Scalars, sequence-at}
+use Rattle.definition.specs.Utf8.{encode, encode-all, Scalars, sequence-at}
 use Rattle.definition.specs.Text.{with-char, char-has, byte-has, byte-is, star}
 use Rattle.definition.specs.Tables.{cps}
 use Rattle.definition.specs.Matchers.{_then_, only, one, match-lit, plus}
-use Rattle.definition.specs.Regex.{Re, chr, seq, many, some, char, word}
+use Rattle.definition.specs.Regex.{Re, chr, seq, many, some, word}
 use Rattle.definition.specs.Patterns.{text}
 use Rattle.definition.specs.declared.Sequence.{Sequence}
 use Rattle.definition.specs.declared.Sequence.the-variants.{Char, Bad, End}
 use Rattle.definition.specs.declared.Match.{Match}
 use Rattle.definition.specs.declared.Match.the-variants.{To, Nothing}
-use Rattle.lemmas.proofs.Tests.{by-order}
 use Rattle.text.proofs.Character.{by-size, char-read}
 use Rattle.text.proofs.Star.{star-on, star-from, by-star}
 use Rattle.progress.proofs.Cases.{by-test, both, either}
-use Rattle.progress.proofs.Characters.{char-at, ascii-at}
+use Rattle.progress.proofs.Characters.{ascii-at}
 use Rattle.progress.proofs.Walks.{byte-passes, char-passes}
 use Rattle.progress.proofs.Matches.{Small, small-is}
 use Rattle.progress.proofs.Words.{plain, all-plain}
 use Rattle.longest.proofs.Language.{Step, Chain, stop, step, At, Spell, spell-bytes, bytes-spell}
-use Rattle.longest.proofs.Ends.{Right, Single, some-end, right-to, right-nothing, right-single, right-map, right-only, right-last, right-then, right-head, Then}
+use Rattle.longest.proofs.Ends.{Right, Single, some-end, right-to, right-nothing, right-single, right-last, right-then, right-head, Then}
 use Rattle.longest.proofs.Starts.{may-be-empty, starts, step-on, step-has, step-same, step-code, chain-forward, at-first, at-ahead, at-single}
 
 -- ---- the characters of words
@@ -42,12 +41,11 @@ use Rattle.longest.proofs.Starts.{may-be-empty, starts, step-on, step-h
 pub plain-scalars : (cs : List ℕ) → all-plain cs ≡ true → Scalars cs
 plain-scalars [] p = tt
 plain-scalars (c ∷ cs) p =
-    let h = both (plain c) (all-plain cs) p in
-    (
+    let h = both (plain c) (all-plain cs) p in (
       either (ltb c 0x80) (leb 0x800 c && ltb c 0xD800)
-      (λ t. let l = ltb-true c 0x80 t in record { small = omega arith; plain = inl (omega arith) })
-      (λ t. let l = ltb-true c 0xD800 (both (leb 0x800 c) (ltb c 0xD800) t .1) in record { small = omega arith; plain = inl l })
-      (h .0),
+          (λ t. let l = ltb-true c 0x80 t in record { small = omega arith; plain = inl (omega arith) })
+          (λ t. let l = ltb-true c 0xD800 (both (leb 0x800 c) (ltb c 0xD800) t .1) in record { small = omega arith; plain = inl l })
+          (h .0),
       plain-scalars cs (h .1),
     )
 
@@ -60,12 +58,11 @@ encode-ascii c = by-size (λ l. c < 0x80 → l ≡ c ∷ []) c (λ _ _. refl) (�
 module _ (s : Bytes) where
   -- What the bytes from i on begin with is the byte at i, and what follows it is behind it.
   first-byte : (i b : ℕ) (l : Bytes) → drop i s ≡ b ∷ l → (i < length s) × (getD s i 0 ≡ b) × (drop (i + 1) s ≡ l)
-  first-byte i b l h =
-      (
-        omega (arith, length-drop i s, ap length h),
-        ap (λ (k : ℕ). getD s k 0) (sym (add-zero i)) ∙ sym (getD-drop i s 0 0) ∙ ap (λ (x : Bytes). getD x 0 0) h,
-        sym (drop-drop 1 i s) ∙ ap (drop 1) h,
-      )
+  first-byte i b l h = (
+    omega (arith, length-drop i s, ap length h),
+    ap (λ (k : ℕ). getD s k 0) (sym (add-zero i)) ∙ sym (getD-drop i s 0 0) ∙ ap (λ (x : Bytes). getD x 0 0) h,
+    sym (drop-drop 1 i s) ∙ ap (drop 1) h,
+  )
 
   -- A byte of the text that passes a test is found.
   byte-found : (p : ℕ → Bool) (i : ℕ) → i < length s → p (getD s i 0) ≡ true → byte-has p s i ≡ true

@@ -2,10 +2,10 @@
 -- for one in front of a matcher changes nothing, and two expressions with no first character in common exclude each other.
 -- Rests on the language over offsets.
 use Prim.Native.Nat.{ℕ, _+_, _≤_, _<_}
-use mathlib.Core.Path.{_≡_, refl, sym, ap, subst, _∙_}
+use mathlib.Core.Path.{_≡_, refl, sym, subst, _∙_}
 use mathlib.Core.Bool.{Bool, true, false, _&&_, _||_, false≢true}
 use mathlib.Core.List.{List, [], _∷_}
-use mathlib.Core.Logic.{_⊎_, inl, inr}
+use mathlib.Core.Logic.{inl, inr}
 use native.Mathlib.Omega.{arith}
 use lib.Dec.{eqb}
 use lib.ListN.{length}
@@ -19,7 +19,7 @@ use Rattle.definition.specs.declared.Sequence.the-variants.{Char}
 use Rattle.definition.specs.declared.Match.{Match}
 use Rattle.text.proofs.Character.{char-read, char-within}
 use Rattle.lemmas.proofs.Tests.{by-order}
-use Rattle.progress.proofs.Cases.{both, either, by-test}
+use Rattle.progress.proofs.Cases.{both, by-test}
 use Rattle.longest.proofs.Language.{Step, Chain, stop, step, At}
 use Rattle.longest.proofs.Ends.{Right, right-only, Single, single-then}
 
