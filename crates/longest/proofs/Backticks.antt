@@ -44,7 +44,7 @@ module _ (s : Bytes) where
   item-single : (j : ℕ) → Single (At s item j)
   item-single j = single-alt (step-single s) (at-single s (seq (text "`") plain) j refl) (λ a b x y. apart s plain (seq (text "`") plain) j a b refl refl ok-or-tick x y)
 
-  -- A step by a test is within the text, and so is an item.
+  -- It ends within the text.
   item-within : (j k : ℕ) → At s item j k → k ≤ length s
   item-within j k (inl a) = step-on a .1
   item-within j k (inr (m, a, b)) = step-on b .1
@@ -56,11 +56,11 @@ module _ (s : Bytes) where
       let z : m ≡ n = sym q ∙ step-same a b .0 in
       ok-or-tick (x .code) (x .passes) (step-same x (subst (λ (v : ℕ). Step s (λ c. eqb c (ch "`")) v n′) (sym z) y) .1)
 
-  -- A backtick and a character behind it.
+  -- A backtick and a character behind it are found by the second test of a turn.
   behind-right : (j : ℕ) → Right (At s (seq (text "`") plain) j) (only (byte-is (ch "`") s j) (one ok s (j + 1)))
   behind-right j = right-letter s (ch "`") (omega arith) j (j + 1) refl (λ _. one-right s ok (j + 1))
 
-  -- Two backticks.
+  -- Two backticks are found by their tests.
   ticks-right : (j : ℕ) → Right (At s (text "``") j) (only (byte-is (ch "`") s j && byte-is (ch "`") s (j + 1)) (To (j + 2)))
   ticks-right j =
       right-both (To (j + 2)) (byte-is (ch "`") s j) (byte-is (ch "`") s (j + 1))
@@ -133,7 +133,7 @@ module _ (s : Bytes) where
     loop-right : Right (Left start) (loop (backtick-turn s) (λ a. Nothing) (fuel s) start)
     loop-right = loop-gives turns (λ a. Nothing) (fuel s) start (record { to = λ e x. x; from = λ e x. x }) (omega arith)
 
-  -- A name in backticks.
+  -- `match-backtick-ident` finds the end of a name in backticks.
   pub backtick-right : (i : ℕ) → Right (At s (seq (text "``") (seq (some item) (text "``"))) i) (match-backtick-ident s i)
   unfolding match-backtick-ident
   backtick-right i =

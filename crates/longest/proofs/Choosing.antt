@@ -50,7 +50,7 @@ abbrev only-one : ℕ → ℕ → List Re → ℕ → Bool
 only-one k n [] c = true
 only-one k n (r ∷ rs) c = (eqb n k || not (starts r c)) && only-one k (suc n) rs c
 
--- An expression of a list that all permit no empty text doesn't.
+-- In such a list the expression numbered j permits none.
 full-at : (rs : List Re) → all-full rs ≡ true → (j : ℕ) → may-be-empty (getD rs j never) ≡ false
 full-at [] h j = refl
 full-at (r ∷ rs) h zero = not-true (may-be-empty r) (both (not (may-be-empty r)) (all-full rs) h .0)
@@ -86,12 +86,12 @@ pattern-ahead s f k i e a = at-ahead s (getD (all-patterns f) k never) i e (full
 at-char : (P : ℕ → Type 0) {a c : ℕ} → P a → eqb c a ≡ true → P c
 at-char P {a} {c} h e = subst P (sym (eqb-true c a e)) h
 
--- White space of ASCII, character by character.
+-- What holds of each character of white space of ASCII holds of all of it.
 by-white : (P : ℕ → Type 0) → P (ch " ") → P (ch "\t") → P 11 → P 12 → (c : ℕ) → white-fast c ≡ true → P c
 by-white P w x y z c =
     either (eqb c (ch " ")) _ (at-char P w) (either (eqb c (ch "\t")) _ (at-char P x) (either (eqb c 11) (eqb c 12) (at-char P y) (at-char P z)))
 
--- The line ends of ASCII.
+-- The same holds of its line ends.
 by-line : (P : ℕ → Type 0) → P (ch "\n") → P (ch "\r") → (c : ℕ) → line-fast c ≡ true → P c
 by-line P x y c = either (eqb c (ch "\n")) (eqb c (ch "\r")) (at-char P x) (at-char P y)
 
@@ -127,12 +127,12 @@ answer s f i k =
       ]
     ]
 
--- A place's choice as an answer.
+-- The choice of a place is a right answer.
 picks-right : {P : ℕ → Type 0} {i k : ℕ} {c : Choice} → ((e : ℕ) → P e → i < e) → Picks P i k c → Right P (choice-end i c)
 picks-right {P} {i} {c = c} ahead h =
     by-lt (Right P) i (c .end) (λ l. right-to (h .fits l .1) (h .top)) (λ l. right-nothing (λ e p. omega (arith, ahead e p, h .top e p)))
 
--- A fact of each numbered element of a list, at one of them.
+-- A fact of each numbered element of a list holds of one of them.
 numbered-in : {A : Type 0} {P : ℕ → A → Type 0} {n : ℕ} {l : List A} (d : A) → Numbered P n l → (k : ℕ) → k < length l → P (n + k) (getD l k d)
 numbered-in d no-more k h = absurd (omega arith)
 numbered-in {P = P} {n} {l = a ∷ l} d (p ⨟ ps) zero h = subst (λ (m : ℕ). P m a) (sym (add-zero n)) p
@@ -175,13 +175,13 @@ module _ (s f : Bytes) (i : ℕ) where
       let first : Step s q i e = record { code = c .code; width = c .width; read = c .read; ends = refl; passes = passes (c .code) (c .passes) } in
       best-alone 50 k a b (alone k (c .code) (c .width) (c .read) (only (c .code) (c .passes))) r e (step-on first .0) (permits e first)
 
-  -- White space of ASCII.
+  -- At white space of ASCII the run of white space is best.
   white-best : char-has white-fast s i ≡ true → Best (Has s f i) i 50 (found i 7 0 (plus (is-anywhite f) s i))
   unfolding pattern patterns
   white-best =
       fast-best white-fast (is-anywhite f) 7 (omega arith) (omega arith) (fast-only f .0) (fast-is f .0) (plus-right s (is-anywhite f) i) (λ e h. (e, h, stop refl))
 
-  -- A line end of ASCII.
+  -- At a line end of ASCII the line end is best.
   line-best : char-has line-fast s i ≡ true → Best (Has s f i) i 50 (found i 8 0 (match-newline s i))
   unfolding pattern patterns
   line-best = fast-best line-fast is-newline-char 8 (omega arith) (omega arith) (fast-only f .1) (fast-is f .1) (newline-right s i) (λ e h. inr h)
@@ -250,7 +250,7 @@ module _ (s f : Bytes) (i : ℕ) where
     unfolding places
     slow-best h = best-all (numbered-map (λ k c. place-sound h) (all-places s f i n))
 
-    -- The choice of `select`, wherever it starts.
+    -- The choice of `select` is the longest, wherever it starts.
     pub choice-longest : i ≤ length s → Longest s f i (select s f i)
     unfolding select
     choice-longest h =

@@ -121,7 +121,7 @@ newline-beyond c n =
     return : eqb c (ch "\r") ≡ true → leb ascii-limit c ≡ true
     return x = absurd (slow (right (eqb c (ch "\n")) _ x))
 
--- The test of a character that is read.
+-- A test of the character at i is the test of the one that is read there.
 pub has-read : (p : ℕ → Bool) (s : Bytes) (i c w : ℕ) → sequence-at s i ≡ Char c w → char-has p s i ≡ p c
 unfolding char-has
 has-read p s i c w q = rw (q, char-has)
@@ -142,11 +142,11 @@ module _ (s f : Bytes) (i : ℕ) where
     right-one : Picks (Has k) i k c → Place k c
     special : (k ≡ 7) ⊎ ((k ≡ 8) ⊎ (k ≡ 27)) → (Slow s i → Sound Has chosen i k c) → Place k c
 
-  -- A place whose matcher is right.
+  -- What a place finds is its choice, where its matcher is right.
   simple : (r : Re) {k : ℕ} {m : Match} → Right (At s r i) m → Picks (At s r i) i k (found i k 0 m)
   simple r h = picks-found 0 (at-forward s r i) h
 
-  -- The same with a test in front that each first character passes.
+  -- The same holds with a test in front that each first character passes.
   tested : (p : ℕ → Bool) (r : Re) {k : ℕ} {m : Match} → may-be-empty r ≡ false → ((c : ℕ) → starts r c ≡ true → p c ≡ true) → Right (At s r i) m
       → Picks (At s r i) i k (found i k 0 (only (char-has p s i) m))
   tested p r n g h = simple r (guard s r i n g h)
@@ -155,32 +155,32 @@ module _ (s f : Bytes) (i : ℕ) where
   abbrev is : Letter → ℕ → Bool
   is x c = eqb c (ch x)
 
-  -- A word behind a test for its first character.
+  -- It holds of a word behind a test for its first character.
   word-place : (x : Letter) (w : String) {k : ℕ} → all-plain (codes w) ≡ true → may-be-empty (text w) ≡ false → ((c : ℕ) → starts (text w) c ≡ true → is x c ≡ true)
       → Picks (At s (text w) i) i k (found i k 0 (only (char-has (is x) s i) (match-lit s (cps w) i)))
   word-place x w p n g = tested (is x) (text w) n g (text-right s w p i)
 
-  -- An operator of symbols.
+  -- It holds of an operator of symbols.
   operator-place : (chars : String) {k : ℕ} → all-pass is-op-char (codes chars) ≡ true
       → Picks (At s (seq (one-of chars) symbols) i) i k (found i k 0 (only (char-has is-op-char s i) (one-of-then-symbols s i chars)))
   operator-place chars h = simple (seq (one-of chars) symbols) (operator-right s chars i h)
 
-  -- A word and symbols.
+  -- A word and the symbols behind it are the longest operator that begins with it.
   word-symbols : (w : String) → all-plain (codes w) ≡ true → Right (At s (seq (text w) symbols) i) (lit-then-symbols s i w)
   unfolding lit-then-symbols
   word-symbols w p = word-then s w i p (star-right s is-symbolchar)
 
-  -- One character that is an operator's.
+  -- A character that operators have passes the test for them.
   op-is : (x : Letter) → is-op-char (ch x) ≡ true → (c : ℕ) → is x c ≡ true → is-op-char c ≡ true
   op-is x h c t = ap is-op-char (eqb-true c (ch x) t) ∙ h
 
-  -- Place 7 where no fast path is taken.
+  -- The test of place 7 changes nothing where no fast path is taken.
   white-sound : Slow s i → Right (At s (some (chr (is-anywhite f))) i) (only (char-has (leb ascii-limit) s i) (plus (is-anywhite f) s i))
   white-sound h =
       guard-at s (some (chr (is-anywhite f))) i refl (λ c w q t. white-beyond f c (sym (has-read white-fast s i c w q) ∙ h .no-white) t)
       (plus-right s (is-anywhite f) i)
 
-  -- Place 8 there.
+  -- That of place 8 doesn't either.
   newline-sound : Slow s i → Right (At s nl i) (only (char-has (leb ascii-limit) s i) (match-newline s i))
   newline-sound h = guard-at s nl i refl (λ c w q t. newline-beyond c (sym (has-read line-fast s i c w q) ∙ h .no-line) t) (newline-right s i)
 
@@ -192,7 +192,7 @@ module _ (s f : Bytes) (i : ℕ) where
         (either (eqb c (ch "0")) _ (λ t. digit-or-zero c (right (is-digit c) _ t))
         (either (is-digit c || is-digit c) _ (either (is-digit c) (is-digit c) (λ t. t) (λ t. t)) (λ t. digit-or-zero c (right (is-digit c) _ t))))
 
-    -- Where a matcher found an end, it is the choice's.
+    -- What a matcher reaches, the choice reaches.
     end-found : (k e : ℕ) (m : Match) → Reaches e m → e ≤ found i k 0 m .end
     end-found k e (To x) (y, q, h) = let z : x ≡ y = cc in omega arith
     end-found k e Nothing (y, q, h) = some-end q
@@ -223,17 +223,17 @@ module _ (s f : Bytes) (i : ℕ) where
             go (inl r) = inl (end-found 27 e (match-bad-number s f i) r)
             go (inr r) = inr (16, omega arith, omega arith, rw (has e a) (end-found 16 e (max-list (any-integer-ends s i)) r))
 
-    -- A number with a suffix.
+    -- A number with a suffix is the choice of its place.
     suffix-place : (w : String) {k : ℕ} → suffix-like (codes w) ≡ true
         → Picks (At s (suffixed w) i) i k (found i k 0 (only (char-has is-digit s i) (match-int-suffix s i (cps w))))
     suffix-place w h = tested is-digit (suffixed w) refl digit-or-zero (n .suffix w h)
 
-    -- A number with a suffix behind a u.
+    -- So is one with a suffix behind a u.
     usuffix-place : (w : String) {k : ℕ} → all-plain (codes w) ≡ true
         → Picks (At s (usuffixed w) i) i k (found i k 0 (only (char-has is-digit s i) (match-int-usuffix s i (cps w))))
     usuffix-place w h = tested is-digit (usuffixed w) refl digit-or-zero (n .usuffix w h)
 
-    -- Each place, in order.
+    -- What is asked of each place holds, in their order.
     pub all-places : Numbered Place 1 (places s f i)
     unfolding places pattern patterns early-literals kw-op-rules op-tokens mixfix-rules is-op-char in-table ascii-table count-up mem-cp is-hex is-digit
     all-places =

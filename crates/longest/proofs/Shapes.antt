@@ -112,7 +112,7 @@ module _ (s : Bytes) where
 
   -- ---- one character
 
-  -- A character that passes a test.
+  -- `one` finds the character that passes a test.
   pub one-right : (p : ℕ → Bool) (i : ℕ) → Right (Step s p i) (one p s i)
   unfolding one
   one-right p i = go (sequence-at s i) refl
@@ -131,25 +131,25 @@ module _ (s : Bytes) where
 
   -- ---- a byte of ASCII and what is behind it
 
-  -- Nothing more.
+  -- Where nothing more is asked the end is here.
   pub right-here : {j : ℕ} → Right (λ e. j ≡ e) (To j)
   right-here = right-to refl (λ k h. omega arith)
 
-  -- A byte that passes a test for ASCII, and a matcher behind it.
+  -- A byte that passes a test for ASCII is found first, and then what a matcher finds behind it.
   pub right-byte : {p : ℕ → Bool} {Q : ℕ → ℕ → Type 0} {m : Match} → Small p → (i j : ℕ) → j ≡ i + 1 → (byte-has p s i ≡ true → Right (Q j) m)
       → Right (Then (Step s p i) Q) (only (byte-has p s i) m)
   right-byte {p} small i j e h =
       right-head j (byte-has p s i) step-single
       (subst (λ (k : ℕ). Right (Step s p i) (only (byte-has p s i) (To k))) (sym e) (byte-right small i)) h
 
-  -- The same by a test of the character.
+  -- The same holds by a test of the character.
   pub right-has : {p : ℕ → Bool} {Q : ℕ → ℕ → Type 0} {m : Match} → Small p → (i j : ℕ) → j ≡ i + 1 → (char-has p s i ≡ true → Right (Q j) m)
       → Right (Then (Step s p i) Q) (only (char-has p s i) m)
   right-has {p} small i j e h =
       right-head j (char-has p s i) step-single
       (subst (λ (k : ℕ). Right (Step s p i) (only (char-has p s i) (To k))) (sym e) (has-right small i)) h
 
-  -- A word of one letter of ASCII, and a matcher behind it.
+  -- The same holds of a word of one letter of ASCII.
   pub right-letter : {Q : ℕ → ℕ → Type 0} {m : Match} (c : ℕ) → c < 0x80 → (i j : ℕ) → j ≡ i + 1 → (byte-is c s i ≡ true → Right (Q j) m)
       → Right (Then (At s (word (c ∷ [])) i) Q) (only (byte-is c s i) m)
   right-letter c small i j e h = right-head j (byte-is c s i) (at-single s (word (c ∷ [])) i refl) (right-byte (small-is c small) i j e (λ _. right-here)) h
@@ -193,7 +193,7 @@ module _ (s : Bytes) where
   spell-word [] i e h = h
   spell-word (c ∷ cs) i e (w, q, h) = (i + w, record { code = c; width = w; read = q; ends = refl; passes = eq-eqb c c refl }, spell-word cs (i + w) e h)
 
-  -- A word is matched byte by byte.
+  -- So `match-lit` finds a word, byte by byte.
   pub word-right : (cs : List ℕ) → Scalars cs → (i : ℕ) → Right (At s (word cs) i) (match-lit s (encode-all cs) i)
   word-right cs sc i = right-single found finds
     where
@@ -207,14 +207,14 @@ module _ (s : Bytes) where
           let b = spell-bytes s cs i e (word-spell cs i e h) in
           lit-finds (encode-all cs) i (drop e s) (b .1) ∙ ap To (sym (b .2))
 
-  -- A word as it is spelled.
+  -- It finds a word as it is spelled.
   pub text-right : (w : String) → all-plain (codes w) ≡ true → (i : ℕ) → Right (At s (text w) i) (match-lit s (cps w) i)
   unfolding cps
   text-right w p i = word-right (codes w) (plain-scalars (codes w) p) i
 
   -- ---- runs
 
-  -- A run of characters that pass a test.
+  -- `star` ends the longest run of characters that pass a test.
   pub star-right : (p : ℕ → Bool) (i : ℕ) → Right (Chain (Step s p) i) (To (star p s i))
   star-right p i = right-to (run i) (λ k h. reach h)
     where
@@ -229,12 +229,12 @@ module _ (s : Bytes) where
           let q : star p s i ≡ star p s j = star-on p s i (a .code) (a .width) (a .read) (a .passes) ∙ ap (star p s) (sym (a .ends)) in
           omega (arith, reach h)
 
-  -- One or more.
+  -- `plus` ends the longest run of one or more.
   pub plus-right : (p : ℕ → Bool) (i : ℕ) → Right (At s (some (chr p)) i) (plus p s i)
   unfolding plus
   plus-right p i = right-then step-single (one-right p i) (λ j h. star-right p j)
 
-  -- Where a run goes on, so does a step.
+  -- Where a run goes on, a character that passes stands.
   chain-next : {p : ℕ → Bool} {i e : ℕ} → Chain (Step s p) i e → i < e → (k : ℕ) × Step s p i k
   chain-next (stop q) h = absurd (omega arith)
   chain-next (step j a k) h = (j, a)
