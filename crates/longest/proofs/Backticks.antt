@@ -1,22 +1,22 @@
 -- A name in backticks: the loop that reads it finds the one end of its pattern. Each turn is decided by the characters that stand there:
 -- one that the name may have, one behind a backtick, or neither. Rests on the shapes and on the laws of loops.
-use Prim.Native.Nat.{ℕ, suc, _+_, _-_, _≤_, _<_}
-use mathlib.Core.Path.{_≡_, refl, sym, ap, subst, _∙_}
-use mathlib.Core.Bool.{Bool, true, false, not, _&&_, false≢true}
+use Prim.Native.Nat.{ℕ, _+_, _-_, _≤_, _<_}
+use mathlib.Core.Path.{_≡_, refl, sym, subst, _∙_}
+use mathlib.Core.Bool.{Bool, true, not, _&&_}
 use mathlib.Core.Logic.{_⊎_, inl, inr}
 use native.Mathlib.Omega.{arith}
 use lib.Dec.{ltb, eqb}
 use lib.ListN.{length}
 use borrow.Author.Tests.{lt-ltb, ltb-true}
-use Rattle.definition.specs.Basics.{Bytes, Turn, again, done, loop, fuel, ch}
+use Rattle.definition.specs.Basics.{Bytes, Turn, loop, fuel, ch}
 use Rattle.definition.specs.Text.{byte-is}
 use Rattle.definition.specs.Chars.{is-newline-char}
 use Rattle.definition.specs.Matchers.{only, one, backtick-turn, match-backtick-ident}
-use Rattle.definition.specs.Regex.{Re, chr, seq, alt, some}
+use Rattle.definition.specs.Regex.{Re, seq, alt, some}
 use Rattle.definition.specs.Patterns.{text, plain}
 use Rattle.definition.specs.declared.Match.{Match}
 use Rattle.definition.specs.declared.Match.the-variants.{To, Nothing}
-use Rattle.progress.proofs.Cases.{by-match, both}
+use Rattle.progress.proofs.Cases.{by-match}
 use Rattle.progress.proofs.Loops.{Leads, Falls, loop-gives}
 use Rattle.progress.proofs.Matches.{small-is}
 use Rattle.longest.proofs.Language.{Step, Chain, stop, step, At}
@@ -44,7 +44,7 @@ module _ (s : Bytes) where
   item-single : (j : ℕ) → Single (At s item j)
   item-single j = single-alt (step-single s) (at-single s (seq (text "`") plain) j refl) (λ a b x y. apart s plain (seq (text "`") plain) j a b refl refl ok-or-tick x y)
 
-  -- A step by a test is within the text, and so is an item.
+  -- It ends within the text.
   item-within : (j k : ℕ) → At s item j k → k ≤ length s
   item-within j k (inl a) = step-on a .1
   item-within j k (inr (m, a, b)) = step-on b .1
@@ -56,11 +56,11 @@ module _ (s : Bytes) where
       let z : m ≡ n = sym q ∙ step-same a b .0 in
       ok-or-tick (x .code) (x .passes) (step-same x (subst (λ (v : ℕ). Step s (λ c. eqb c (ch "`")) v n′) (sym z) y) .1)
 
-  -- A backtick and a character behind it.
+  -- A backtick and a character behind it are found by the second test of a turn.
   behind-right : (j : ℕ) → Right (At s (seq (text "`") plain) j) (only (byte-is (ch "`") s j) (one ok s (j + 1)))
   behind-right j = right-letter s (ch "`") (omega arith) j (j + 1) refl (λ _. one-right s ok (j + 1))
 
-  -- Two backticks.
+  -- Two backticks are found by their tests.
   ticks-right : (j : ℕ) → Right (At s (text "``") j) (only (byte-is (ch "`") s j && byte-is (ch "`") s (j + 1)) (To (j + 2)))
   ticks-right j =
       right-both (To (j + 2)) (byte-is (ch "`") s j) (byte-is (ch "`") s (j + 1))
@@ -109,11 +109,10 @@ module _ (s : Bytes) where
 
     -- An item that a turn reads is one more, and the rest gets shorter.
     turn-on : (j n k : ℕ) → Kept (j, n) → At s item j k → Kept (k, n + 1) × (length s - k < length s - j)
-    turn-on j n k h a =
-        (
-          record { to = λ e x. read-on j n k a e (h .to e x); from = λ e x. h .from e (read-back j n k a e x) },
-          omega (arith, at-ahead s item j k refl a, item-within j k a),
-        )
+    turn-on j n k h a = (
+      record { to = λ e x. read-on j n k a e (h .to e x); from = λ e x. h .from e (read-back j n k a e x) },
+      omega (arith, at-ahead s item j k refl a, item-within j k a),
+    )
 
     -- Each turn reads an item, or answers rightly.
     turns : Falls (backtick-turn s) Kept (λ a. length s - a .0) (Right (Left start))
@@ -134,7 +133,7 @@ module _ (s : Bytes) where
     loop-right : Right (Left start) (loop (backtick-turn s) (λ a. Nothing) (fuel s) start)
     loop-right = loop-gives turns (λ a. Nothing) (fuel s) start (record { to = λ e x. x; from = λ e x. x }) (omega arith)
 
-  -- A name in backticks.
+  -- `match-backtick-ident` finds the end of a name in backticks.
   pub backtick-right : (i : ℕ) → Right (At s (seq (text "``") (seq (some item) (text "``"))) i) (match-backtick-ident s i)
   unfolding match-backtick-ident
   backtick-right i =

@@ -27,6 +27,7 @@ use Rattle.longest.proofs.Language.{Step, Chain, stop, step, At}
 use Rattle.longest.proofs.Ends.{Right, Single, single-found, right-later}
 use Rattle.longest.proofs.Starts.{left, right, step-on, step-same, step-map, chain-forward, at-ahead, listed-passes}
 use Rattle.longest.proofs.Shapes.{text-right, plus-right}
+use Rattle.longest.proofs.Places.{bad-number, Reaches}
 use Rattle.longest.proofs.Integers.{between-wider, digit-hex, octal-hex, integer-right, xinteger-right, any-integer-right}
 use Rattle.longest.proofs.Floats.{pointed, scientific, match-pointed, match-short, floatp-right, floate-right, pointed-right, pointed-single, short-right, short-single}
 
@@ -40,12 +41,12 @@ Within p (seq r q) = Within p r × Within p q
 Within p (alt r q) = Within p r × Within p q
 Within p (many r) = Within p r
 
--- Steps in a row with others.
+-- Steps and others behind them are steps in a row.
 chain-join : {P : ℕ → ℕ → Type 0} {i j k : ℕ} → Chain P i j → Chain P j k → Chain P i k
 chain-join {P} {k = k} (stop q) d = subst (λ (x : ℕ). Chain P x k) (sym q) d
 chain-join (step m a c) d = step m a (chain-join c d)
 
--- Steps that are steps in a row themselves.
+-- Steps each of which is steps in a row are steps in a row.
 chain-flat : {P Q : ℕ → ℕ → Type 0} → ((i e : ℕ) → P i e → Chain Q i e) → {i e : ℕ} → Chain P i e → Chain Q i e
 chain-flat f (stop q) = stop q
 chain-flat f {i} (step m a c) = chain-join (f i m a) (chain-flat f c)
@@ -77,7 +78,7 @@ module _ (s : Bytes) (p : ℕ → Bool) where
 
 -- ---- characters of identifiers
 
--- A character that passes a test, as a test for it.
+-- A character that is a given one passes each test that the given one passes.
 is-passes : (p : ℕ → Bool) (a : ℕ) → p a ≡ true → (c : ℕ) → eqb c a ≡ true → p c ≡ true
 is-passes p a h c t = subst (λ (x : ℕ). p x ≡ true) (sym (eqb-true c a t)) h
 
@@ -123,13 +124,12 @@ module _ (f : Bytes) where
   integer-within : Within (is-ident-char f) integer
   integer-within = (digit-ident, digit-ident)
 
-  -- The same with a letter for the base.
+  -- So are those of an integer with a letter for its base.
   xinteger-within : Within (is-ident-char f) xinteger
   unfolding is-ident-char mem-cp is-digit
   xinteger-within =
       let octal : (c : ℕ) → between (ch "0") (ch "7") c ≡ true → is-ident-char f c ≡ true = λ c t. hex-ident c (octal-hex c t) in
-      let bit : (c : ℕ) → mem-cp c (codes "01") ≡ true → is-ident-char f c ≡ true = listed-passes (is-ident-char f) (codes "01") refl in
-      (
+      let bit : (c : ℕ) → mem-cp c (codes "01") ≡ true → is-ident-char f c ≡ true = listed-passes (is-ident-char f) (codes "01") refl in (
         (is-passes (is-ident-char f) (ch "0") refl, tt),
         (
           (listed-passes (is-ident-char f) (codes "xX") refl, (hex-ident, hex-ident)),
@@ -140,7 +140,7 @@ module _ (f : Bytes) where
         ),
       )
 
-  -- And with LF behind it.
+  -- So are those of one with LF behind it.
   xieee64-within : Within (is-ident-char f) xieee64
   unfolding is-ident-char is-digit
   xieee64-within = (xinteger-within, (is-passes (is-ident-char f) (ch "L") refl, (is-passes (is-ident-char f) (ch "F") refl, tt)))
@@ -154,14 +154,6 @@ number = alt integer (alt xinteger (alt ieee64 xieee64))
 -- One or more characters of identifiers.
 abbrev letters : Bytes → Re
 letters f = some (chr (is-ident-char f))
-
--- The pattern: a number and such characters behind it.
-abbrev pub bad : Bytes → Re
-bad f = seq number (letters f)
-
--- An answer is an end, and not before k.
-abbrev pub Reaches : ℕ → Match → Type 0
-Reaches k m = (e : ℕ) × (m ≡ To e) × (k ≤ e)
 
 -- What one of two answers reaches the later one does.
 reaches-later : (m n : Match) (k : ℕ) → Reaches k m ⊎ Reaches k n → Reaches k (later m n)
@@ -177,13 +169,13 @@ reaches-max [] n k h = h
 reaches-max (m ∷ ms) zero k h = reaches-later m (max-list ms) k (inl h)
 reaches-max (m ∷ ms) (suc n) k h = reaches-later m (max-list ms) k (inr (reaches-max ms n k h))
 
--- A right answer is an end of each kind that has its ends.
+-- A right answer is an end of whatever its ends are ends of.
 right-end : {P Q : ℕ → Type 0} {m : Match} → Right P m → ((e : ℕ) → P e → Q e) → Each-end Q m
 right-end r f = record { at = λ {e} q. f e (r .fits e q) }
 
 module _ (s f : Bytes) (i : ℕ) where
   -- What the matcher finds is an end of the pattern: each of its seven ends is one of a number.
-  bad-ends : Each-end (At s (bad f) i) (match-bad-number s f i)
+  bad-ends : Each-end (At s (bad-number f) i) (match-bad-number s f i)
   unfolding match-bad-number
   bad-ends =
       ends-max (each-map {P = Each-end (At s number i)} _ (λ m h. ends-then h (λ j n. right-end (plus-right s (is-ident-char f) j) (λ e r. (j, n, r))))
@@ -205,28 +197,28 @@ module _ (s f : Bytes) (i : ℕ) where
       long : (e : ℕ) → At s (scientific (chr is-digit)) i e → At s floate i e
       long e (a, x, (b, y, (c, z, (d, w, t)))) = (a, x, (b, y, (c, z, (d, w, (e, t, stop refl)))))
 
-  -- So it fits.
-  pub bad-fits : (e : ℕ) → match-bad-number s f i ≡ To e → At s (bad f) i e
+  -- So what it finds fits.
+  pub bad-fits : (e : ℕ) → match-bad-number s f i ≡ To e → At s (bad-number f) i e
   bad-fits e q = bad-ends .at q
 
   -- ---- every end is reached
 
-  -- The ends that count are those behind an integer, behind a number up to its point, and behind one with an exponent of one digit.
+  -- What is reached behind the longest integer is reached: three of the seven ends are enough.
   by-integer : (k : ℕ) → Reaches k (match-integer s i then plus (is-ident-char f) s) → Reaches k (match-bad-number s f i)
   unfolding match-bad-number
   by-integer k h = reaches-max _ 0 k h
 
-  -- The second.
+  -- What is reached behind a number up to its point is reached.
   by-point : (k : ℕ) → Reaches k (match-pointed s i then plus (is-ident-char f) s) → Reaches k (match-bad-number s f i)
   unfolding match-bad-number
   by-point k h = reaches-max _ 5 k h
 
-  -- The third.
+  -- What is reached behind one with an exponent of one digit is reached.
   by-exponent : (k : ℕ) → Reaches k (match-short s i then plus (is-ident-char f) s) → Reaches k (match-bad-number s f i)
   unfolding match-bad-number
   by-exponent k h = reaches-max _ 6 k h
 
-  -- Such characters are a run.
+  -- Characters of identifiers are a run.
   letters-run : (j k : ℕ) → At s (letters f) j k → Chain (Step s (is-ident-char f)) j k
   letters-run j k (m, a, c) = step m a c
 
@@ -235,19 +227,19 @@ module _ (s f : Bytes) (i : ℕ) where
   found-reaches j k q c h =
       subst (λ (m : Match). Reaches k (m then plus (is-ident-char f) s)) (sym q) (plus-right s (is-ident-char f) j .top k (run-some s (is-ident-char f) c h))
 
-  -- A shortest part with one end, and digits behind it: they are the first of those characters.
+  -- Behind a shortest part that has one end, digits are the first of those characters, so what they lead to is reached behind it.
   short-reaches : {m : Match} (r : Re) → Single (At s r i) → Right (At s r i) m → (j n k : ℕ) → At s r i j → Chain (Step s is-digit) j n
       → At s (letters f) n k → Reaches k (m then plus (is-ident-char f) s)
   short-reaches r one h j n k a c b =
       let d = at-run s (is-ident-char f) (many (chr is-digit)) (digit-ident f) j n c in
       found-reaches j k (single-found one h a) (chain-join d (letters-run n k b)) (omega (arith, run-forward s (is-ident-char f) d, at-ahead s (letters f) n k refl b))
 
-  -- What the pattern leads to is reached by the matcher, or by an integer.
+  -- The matcher reaches k, or an integer does.
   abbrev pub Reached : ℕ → Type 0
   Reached k = Reaches k (match-bad-number s f i) ⊎ Reaches k (max-list (any-integer-ends s i))
 
-  -- A number that has characters of identifiers alone and begins with an integer: what is behind the longest integer is found, and
-  -- where nothing is, the integer reaches as far.
+  -- Where a number has characters of identifiers alone and begins with an integer, what is behind the longest integer is found, and
+  -- where nothing is behind it, it reaches as far itself.
   run-reached : (r : Re) → Within (is-ident-char f) r → (j m k : ℕ) → At s integer i j → At s r i m → At s (letters f) m k → Reached k
   run-reached r w j m k a x y =
       let t = integer-right s i .top j a in
@@ -265,7 +257,7 @@ module _ (s f : Bytes) (i : ℕ) where
   zero-first e (m, (j, a, b), c) = (j, (j, step-map (is-passes is-digit (ch "0") refl) a, stop refl))
 
   -- Every end of the pattern is reached.
-  pub bad-reached : (k : ℕ) → At s (bad f) i k → Reached k
+  pub bad-reached : (k : ℕ) → At s (bad-number f) i k → Reached k
   bad-reached k (m, inl a, b) = run-reached integer (integer-within f) m m k a a b
   bad-reached k (m, inr (inl a), b) = let z = zero-first m a in run-reached xinteger (xinteger-within f) (z .0) m k (z .1) a b
   bad-reached k (m, inr (inr (inl (inl (a, x, (j, y, c))))), b) = inl (by-point k (short-reaches pointed (pointed-single s i) (pointed-right s i) j m k (a, x, y) c b))

@@ -3,13 +3,12 @@
 use Prim.Native.Nat.{ℕ, suc, _+_, _≤_, _<_}
 use Prim.Native.String.{String}
 use mathlib.Core.Path.{_≡_, refl, sym, ap, subst, _∙_}
-use mathlib.Core.Bool.{Bool, true, false, _&&_}
+use mathlib.Core.Bool.{Bool, true, _&&_}
 use mathlib.Core.List.{List, [], _∷_}
 use mathlib.Core.Logic.{_⊎_, inl, inr}
 use native.Mathlib.Nat.{add-zero}
 use native.Mathlib.Decide.{ℕ-discrete}
 use native.Mathlib.Omega.{arith}
-use lib.Dec.{ltb}
 use lib.ListN.{length, getD}
 use Rattle.definition.specs.Basics.{Bytes}
 use Rattle.definition.specs.Tables.{Entry, cps}
@@ -80,7 +79,7 @@ abbrev pub all-words : (String → Bool) → List Entry → Bool
 all-words t [] = true
 all-words t (e ∷ es) = t (e .0) && all-words t es
 
--- The longest of the words of a table, where each has its matcher.
+-- The choice among the words of a table, where each has its matcher, is the longest, and no shorter than the choice before.
 pub picks-words : (i k : ℕ) (t : String → Bool) {Q : String → ℕ → Type 0} (m : Bytes → Match)
     → ((x : String) (e : ℕ) → Q x e → i ≤ e) → ((x : String) → t x ≡ true → Right (Q x) (m (cps x)))
     → (w : ℕ) (es : List Entry) → all-words t es ≡ true → {P : ℕ → Type 0} {b : Choice} → Picks P i k b
@@ -105,7 +104,7 @@ picks-words i k t {Q} m ahead r w (x ∷ es) h {P} b =
     from e (inr (inl q)) = inl (inr q)
     from e (inr (inr o)) = inr o
 
--- A table of words, from nothing on.
+-- The choice among the words of a table is the longest.
 pub picks-table : (i k : ℕ) (t : String → Bool) {Q : String → ℕ → Type 0} (m : Bytes → Match)
     → ((x : String) (e : ℕ) → Q x e → i ≤ e) → ((x : String) → t x ≡ true → Right (Q x) (m (cps x)))
     → (es : List Entry) → all-words t es ≡ true → Picks (λ e. One-of (λ x. Q x e) es) i k (try-words i k m 0 es (none-at i))
@@ -154,7 +153,7 @@ unfolding keep
 keep-covers b c = by-if-lt (λ (x : Choice). (b .end ≤ x .end) × (c .end ≤ x .end)) (b .end) (c .end) (λ l. omega arith) (λ l. omega arith)
 
 module _ {P : ℕ → ℕ → Type 0} {m : ℕ → ℕ} {i : ℕ} where
-  -- The next place is tried.
+  -- Where the next place is tried, what is kept is the best of one place more.
   best-keep : (n : ℕ) {b c : Choice} → ((k : ℕ) → 1 ≤ k → k ≤ n → m k ≤ b .end) → Best P i n b → Sound P m i (suc n) c → Best P i (suc n) (keep b c)
   unfolding keep
   best-keep n {b} {c} covers h g =
@@ -183,7 +182,7 @@ module _ {P : ℕ → ℕ → Type 0} {m : ℕ → ℕ} {i : ℕ} where
           go (inl q) = omega arith
           go (inr (j, x, y, q)) = omega (arith, covers j x (omega arith))
 
-  -- All the places from one on are tried, where m gives the end of each.
+  -- Where all the places from one on are tried, what is kept is the best of them all; m gives the end of each.
   best-rest : (n : ℕ) {cs : List Choice} {b : Choice} → Numbered (Sound P m i) (suc n) cs → ((k : ℕ) → getD cs k (none-at i) .end ≡ m (suc n + k))
       → ((k : ℕ) → 1 ≤ k → k ≤ n → m k ≤ b .end) → Best P i n b → Best P i (n + length cs) (try-all cs b)
   unfolding try-all
@@ -198,7 +197,7 @@ module _ {P : ℕ → ℕ → Type 0} {m : ℕ → ℕ} {i : ℕ} where
       (λ k x y. up-to (λ k. m k ≤ keep b c .end) n k y (λ l. omega (arith, covers k x l, o .0)) (omega (arith, o .1)))
       (best-keep n covers h g))
 
--- The best of all places.
+-- What is kept of all places is the best.
 pub best-all : {P : ℕ → ℕ → Type 0} {i : ℕ} {cs : List Choice} → Numbered (Sound P (end-of i cs) i) 1 cs → Best P i (length cs) (try-all cs (none-at i))
 best-all {P} {i} {cs} gs =
     let z : 0 + length cs ≡ length cs = omega arith in
@@ -216,7 +215,7 @@ best-all {P} {i} {cs} gs =
           first = λ k e a b p. absurd (omega arith);
         }
 
--- What a matcher finds for one place, where no other has an end at all and it has one.
+-- What a matcher finds for one place is the best, where no other has an end at all and it has one.
 pub best-alone : {P : ℕ → ℕ → Type 0} {i : ℕ} (n k : ℕ) {m : Match} → 1 ≤ k → k ≤ n → ((j e : ℕ) → (j ≡ k → ⊥) → P j e → ⊥) → Right (P k) m
     → (e : ℕ) → i < e → P k e → Best P i n (found i k 0 m)
 best-alone n k {m = Nothing} a b others r e l p = some-end (r .top e p .1)

@@ -27,7 +27,7 @@ use Rattle.longest.proofs.Shapes.{byte-step, right-byte, run-more}
 abbrev pub two : ℕ → ℕ → ℕ → Bool
 two a b c = eqb c a || eqb c b
 
--- Two numbers are the same in either order.
+-- Two numbers are found the same in either order.
 turned : (a b : ℕ) → eqb a b ≡ eqb b a
 turned a b = go (eqb a b) (eqb b a) (λ e. eq-eqb b a (sym (eqb-true a b e))) (λ e. eq-eqb a b (sym (eqb-true b a e)))
   where
@@ -46,7 +46,7 @@ two-listed a b = fun-ext (λ c. ap₂ _||_ (turned c a) (turned c b) ∙ go (eqb
     go false true = refl
     go false false = refl
 
--- Two of ASCII are tested for by a byte.
+-- A test for two characters of ASCII passes ASCII alone.
 small-two : (a b : ℕ) → a < 0x80 → b < 0x80 → Small (two a b)
 small-two a b h k = small-or (small-is a h) (small-is b k)
 
@@ -55,7 +55,7 @@ pub none-listed : (l : List ℕ) (p : ℕ → Bool) → all-pass (λ c. not (p c
 none-listed l p h c t e = false≢true (sym (not-true _ (listed-passes (λ c. not (p c)) l h c t)) ∙ e)
 
 module _ (s : Bytes) where
-  -- A byte that is one of two letters of ASCII, and a matcher behind it.
+  -- A byte that is one of two letters of ASCII is found first, and then what a matcher finds behind it.
   pub right-two : {Q : ℕ → ℕ → Type 0} {m : Match} (a b : ℕ) → a < 0x80 → b < 0x80 → (i j : ℕ) → j ≡ i + 1 → Right (Q j) m
       → Right (Then (Step s (λ c. mem-cp c (a ∷ b ∷ [])) i) Q) (only (byte-has (two a b) s i) m)
   right-two {Q} {m} a b x y i j e h =
@@ -71,7 +71,7 @@ module _ (s : Bytes) where
 
 -- ---- alternatives
 
--- The first of two matchers where its test passes, and then the second has no end.
+-- Where a test chooses between two matchers, and the second has no end where it passes, the choice is right for the ends of both.
 pub right-branch : {P Q : ℕ → Type 0} (m n : Match) (t : Bool) → Right P (only t m) → (t ≡ true → (k : ℕ) → Q k → ⊥) → Right Q n
     → Right (λ e. P e ⊎ Q e) (if t then m else n)
 right-branch {P} {Q} m n true a out b = right-map (λ e p. inl p) first a
@@ -85,7 +85,7 @@ right-branch {P} {Q} m n false a out b = right-map (λ e q. inr q) second b
     second e (inl p) = some-end (a .top e p .1)
     second e (inr q) = q
 
--- The later of two answers, by a list of them.
+-- The latest in a list of two right answers is right for the ends of both.
 pub right-max : {P Q : ℕ → Type 0} {m n : Match} → Right P m → Right Q n → Right (λ e. P e ⊎ Q e) (max-list (m ∷ n ∷ []))
 unfolding max-list
 right-max {Q = Q} a b = right-later a (right-map (λ e. found e) (λ e q. inl q) (right-later b (right-nothing {P = λ e. ⊥} (λ k n. n))))
@@ -99,15 +99,15 @@ right-max {Q = Q} a b = right-later a (right-map (λ e. found e) (λ e q. inl q)
 abbrev pub Continues : Bytes → (ℕ → Bool) → (ℕ → Type 0) → Type 0
 Continues s p P = (j k : ℕ) → P j → P k → j < k → (n : ℕ) × Step s p j n
 
--- What is in two parts is so in one way.
+-- Whatever is in two parts is so in one way.
 abbrev pub Parted : (ℕ → Type 0) → (ℕ → ℕ → Type 0) → Type 0
 Parted P Q = (m n j k : ℕ) → P m → P n → Q m j → Q n k → m ≡ n
 
--- A first part with one end at most parts it.
+-- A first part with one end at most leaves one way.
 pub single-parted : {P : ℕ → Type 0} (Q : ℕ → ℕ → Type 0) → Single P → Parted P Q
 single-parted Q one m n j k a b _ _ = one m n a b
 
--- What holds of two ends of the second part holds then of two ends of both.
+-- What relates any two ends of the second part then relates any two ends of both parts.
 pub parted-then : {P : ℕ → Type 0} {Q : ℕ → ℕ → Type 0} (R : ℕ → ℕ → Type 0) → Parted P Q → ((m j k : ℕ) → Q m j → Q m k → R j k)
     → (j k : ℕ) → Then P Q j → Then P Q k → R j k
 parted-then {Q = Q} R one h j k (a, x, y) (b, u, v) = h b j k (subst (λ (n : ℕ). Q n j) (one a b j k x u y v) y) v
@@ -136,12 +136,11 @@ module _ (s : Bytes) (p : ℕ → Bool) where
         let y = at-first s q j e t (at-ahead s q j e full t) .1 in
         other (x .code) (x .passes) (step-same x y .1)
 
-    -- So it parts what it ends.
+    -- So it stands behind one end alone.
     pub continues-parted : Parted P (At s q)
     continues-parted m n j k a b x y =
         by-order m n (λ h. absurd (at-greatest m n j a b h x)) (λ h. by-order n m (λ l. absurd (at-greatest n m k b a l y)) (λ l. omega arith))
 
-    -- And its matcher goes on from the greatest end.
+    -- So its matcher goes on from the greatest end rightly.
     pub continues-then : {m : Match} {g : ℕ → Match} → Right P m → ((j : ℕ) → Right (At s q j) (g j)) → Right (Then P (At s q)) (m then g)
     continues-then r h = right-last at-greatest r (λ j _. h j)
-

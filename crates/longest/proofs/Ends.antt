@@ -1,7 +1,7 @@
 -- A matcher's answer is right: it is the greatest of the ends that there are, or that there are none. One law for each way of putting
 -- matchers together, over any ends. Rests on the definition of those ways alone.
 use Prim.Native.Nat.{ℕ, _≤_, _<_}
-use mathlib.Core.Path.{_≡_, refl, sym, subst, _∙_}
+use mathlib.Core.Path.{_≡_, refl, subst}
 use mathlib.Core.Bool.{Bool, true, false, _&&_, false≢true}
 use mathlib.Core.Logic.{_⊎_, inl, inr}
 use native.Mathlib.Omega.{arith}
@@ -54,17 +54,17 @@ module _ {P : ℕ → Type 0} where
   right-only true h r = r refl
   right-only false h r = right-nothing (λ k p. false≢true (h k p))
 
-  -- Two tests are one after the other.
+  -- Two tests one after the other are both of them.
   pub right-both : (m : Match) (a b : Bool) → Right P (only a (only b m)) → Right P (only (a && b) m)
   right-both m true b r = r
   right-both m false b r = r
 
-  -- A matcher that a test allows, written as a choice.
+  -- A matcher that a test allows may be written as a choice.
   pub right-else : (m : Match) (t : Bool) → Right P (only t m) → Right P (if t then m else Nothing)
   right-else m true r = r
   right-else m false r = r
 
-  -- A choice by a test, written in the other way.
+  -- A choice by a test may be written in either way.
   pub right-elim : (m n : Match) (t : Bool) → Right P (if t then m else n) → Right P (elim t [ true ↦ m | false ↦ n ])
   right-elim m n true r = r
   right-elim m n false r = r
@@ -140,7 +140,7 @@ module _ {P : ℕ → Type 0} {Q : ℕ → ℕ → Type 0} where
   pub right-then : {m : Match} {f : ℕ → Match} → Single P → Right P m → ((j : ℕ) → P j → Right (Q j) (f j)) → Right (Then P Q) (m then f)
   right-then one = right-last (λ j t e p q h _. omega (arith, one j t p q))
 
-  -- The same of a first part that a test finds.
+  -- The same holds of a first part that a test finds.
   pub right-head : (j : ℕ) {m : Match} (t : Bool) → Single P → Right P (only t (To j)) → (t ≡ true → Right (Q j) m) → Right (Then P Q) (only t m)
   right-head j {m} true one r g = right-then one r (λ k p. let same : j ≡ k = one j k (r .fits j refl) p in subst (λ (x : ℕ). Right (Q x) m) same (g refl))
   right-head j false one r g = right-nothing (λ e h. some-end (r .top (h .0) (h .1) .1))

@@ -48,12 +48,12 @@ digit-or-point : (c : ℕ) → is-digit c ≡ true → eqb c (ch ".") ≡ true �
 unfolding is-digit
 digit-or-point = not-both is-digit (ch ".") refl
 
--- Nor the letter of an exponent.
+-- No digit is the letter of an exponent.
 digit-or-letter : (c : ℕ) → is-digit c ≡ true → mem-cp c (codes "eE") ≡ true → ⊥
 unfolding is-digit
 digit-or-letter c t e = none-listed (codes "eE") is-digit refl c e t
 
--- A choice by a test, within what is made of it.
+-- What is made of either choice is made of the choice.
 choice-within : {X Y : Type 0} (g : X → Y) (t : Bool) (a b : X) → (if t then g a else g b) ≡ g (if t then a else b)
 choice-within g true a b = refl
 choice-within g false a b = refl
@@ -66,7 +66,7 @@ module _ (s : Bytes) where
   opt-split r q i e (m, inl a, b) = inl (subst (λ (k : ℕ). At s q k e) (sym a) b)
   opt-split r q i e (m, inr a, b) = inr (m, a, b)
 
-  -- The other way.
+  -- One or the other is such.
   opt-join : (r q : Re) (i e : ℕ) → At s q i e ⊎ At s (seq r q) i e → At s (seq (opt r) q) i e
   opt-join r q i e (inl b) = (i, inl refl, b)
   opt-join r q i e (inr (m, a, b)) = (m, inr a, b)
@@ -77,14 +77,14 @@ module _ (s : Bytes) where
   digits-continue : (i : ℕ) → Continues s is-digit (At s integer i)
   digits-continue i = run-continues s is-digit is-digit (λ c t. t) i
 
-  -- An integer and something that begins with no digit.
+  -- What begins with no digit is found behind the greatest end of an integer.
   integer-then : (q : Re) → may-be-empty q ≡ false → ((c : ℕ) → is-digit c ≡ true → starts q c ≡ true → ⊥) → {g : ℕ → Match} → ((j : ℕ) → Right (At s q j) (g j))
       → (i : ℕ) → Right (At s (seq integer q) i) (match-integer s i then g)
   integer-then q full other h i = continues-then s is-digit (digits-continue i) q full other (integer-right s i) h
 
   -- ---- a point
 
-  -- A point and digits.
+  -- A point and the longest run of digits behind it are found.
   fraction-right : (j : ℕ) → Right (At s fraction j) (only (byte-is (ch ".") s j) (To (star is-digit s (j + 1))))
   fraction-right j = right-letter s (ch ".") (omega arith) j (j + 1) refl (λ _. star-right s is-digit (j + 1))
 
@@ -92,7 +92,7 @@ module _ (s : Bytes) where
   fraction-continues : (j : ℕ) → Continues s is-digit (At s fraction j)
   fraction-continues j = then-continues s is-digit (single-parted (At s (many (chr is-digit))) (at-single s (text ".") j refl)) (λ m a b x y h. run-more s x y h)
 
-  -- A number with a point.
+  -- `match-floatp` finds the longest number with a point.
   pub floatp-right : (i : ℕ) → Right (At s floatp i) (match-floatp s i)
   unfolding match-floatp
   floatp-right i = integer-then fraction refl digit-or-point fraction-right i
@@ -101,7 +101,7 @@ module _ (s : Bytes) where
   floatp-continues : (i : ℕ) → Continues s is-digit (At s floatp i)
   floatp-continues i = then-continues s is-digit (continues-parted s is-digit (digits-continue i) fraction refl digit-or-point) fraction-continues
 
-  -- A real number.
+  -- `match-real` finds a real number.
   pub real-right : (i : ℕ) → Right (At s (seq floatp (text "R")) i) (match-real s i)
   unfolding match-real is-digit
   real-right i =
@@ -112,7 +112,7 @@ module _ (s : Bytes) where
 
   module _ (t : Re) (full : may-be-empty t ≡ false) (unsigned : all-pass (λ c. not (starts t c)) (codes "+-") ≡ true) {g : ℕ → Match}
       (ends : (j : ℕ) → Right (At s t j) (g j)) where
-    -- A sign that may be left out, and what begins with none.
+    -- A sign that may be left out is skipped, and what begins with no sign is found behind it.
     sign-right : (k : ℕ) → Right (At s (seq (opt (one-of "+-")) t) k) (g (skip-sign s k))
     unfolding skip-sign
     sign-right k =
@@ -124,16 +124,16 @@ module _ (s : Bytes) where
         (two-else s (ch "+") (ch "-") (omega arith) (omega arith) t full unsigned k)
         (ends k)))
 
-    -- The letter of an exponent in front of it.
+    -- So an exponent is found by its letter.
     exponent-right : (k : ℕ) → Right (At s (exponent t) k) (only (byte-has is-e s k) (g (skip-sign s (k + 1))))
     unfolding is-e
     exponent-right k = right-two s (ch "e") (ch "E") (omega arith) (omega arith) k (k + 1) refl (sign-right (k + 1))
 
-    -- Digits in front of that.
+    -- It is found behind a run of digits.
     digits-exponent : (j : ℕ) → Right (At s (seq (many (chr is-digit)) (exponent t)) j) (only (byte-has is-e s (star is-digit s j)) (g (skip-sign s (star is-digit s j + 1))))
     digits-exponent j = star-then s is-digit (exponent t) j refl digit-or-letter exponent-right
 
-    -- An exponent, with a point and digits in front of it or without.
+    -- It is found with a point and digits in front of it, and without.
     fraction-exponent : (j : ℕ) → Right (At s (seq (opt fraction) (exponent t)) j)
         (later (only (byte-has is-e s j) (g (skip-sign s (j + 1))))
         (only (byte-is (ch ".") s j) (only (byte-has is-e s (star is-digit s (j + 1))) (g (skip-sign s (star is-digit s (j + 1) + 1))))))
@@ -153,7 +153,7 @@ module _ (s : Bytes) where
   digit-or-exponent : (c : ℕ) → is-digit c ≡ true → eqb c (ch ".") || mem-cp c (codes "eE") ≡ true → ⊥
   digit-or-exponent c t e = either (eqb c (ch ".")) (mem-cp c (codes "eE")) (digit-or-point c t) (digit-or-letter c t) e
 
-  -- A number with an exponent.
+  -- `match-floate` finds the longest number with an exponent.
   pub floate-right : (i : ℕ) → Right (At s floate i) (match-floate s i)
   unfolding match-floate is-digit
   floate-right i = integer-then (seq (opt fraction) (exponent integer)) refl digit-or-exponent (fraction-exponent integer refl refl (integer-right s)) i
@@ -164,11 +164,11 @@ module _ (s : Bytes) where
   abbrev pub match-pointed : ℕ → Match
   match-pointed i = match-integer s i then λ j. only (byte-is (ch ".") s j) (To (j + 1))
 
-  -- It is right.
+  -- It finds such a number.
   pub pointed-right : (i : ℕ) → Right (At s pointed i) (match-pointed i)
   pointed-right i = integer-then (text ".") refl digit-or-point (λ j. right-byte s (small-is (ch ".") (omega arith)) j (j + 1) refl (λ _. right-here s)) i
 
-  -- There is one end.
+  -- Such a number has one end.
   pub pointed-single : (i : ℕ) → Single (At s pointed i)
   pointed-single i =
       parted-then (λ j k. j ≡ k) (continues-parted s is-digit (digits-continue i) (text ".") refl digit-or-point) (λ m. at-single s (text ".") m refl)
@@ -177,11 +177,11 @@ module _ (s : Bytes) where
   abbrev short-exponent : ℕ → Match
   short-exponent k = only (byte-has is-e s k) (only (byte-has is-digit s (skip-sign s (k + 1))) (To (skip-sign s (k + 1) + 1)))
 
-  -- That of a number with such an exponent.
+  -- The matcher of a number with such an exponent.
   abbrev pub match-short : ℕ → Match
   match-short i = later (match-integer s i then short-exponent) (match-pointed i then λ k. short-exponent (star is-digit s k))
 
-  -- It is right.
+  -- It finds such a number.
   pub short-right : (i : ℕ) → Right (At s (scientific (chr is-digit)) i) (match-short i)
   unfolding is-digit
   short-right i =

@@ -4,7 +4,7 @@
 use Prim.Native.Nat.{ℕ, _+_, _≤_}
 use Prim.Native.String.{String}
 use mathlib.Core.Path.{_≡_, refl, subst}
-use mathlib.Core.Bool.{Bool, true, false, not, _&&_, false≢true}
+use mathlib.Core.Bool.{Bool, true, false, not, false≢true}
 use mathlib.Core.List.{List, [], _∷_, map}
 use mathlib.Core.Logic.{_⊎_, inl, inr}
 use native.Mathlib.Omega.{arith}
@@ -19,12 +19,13 @@ use Rattle.definition.specs.Regex.{Re, chr, seq, alt, some, word}
 use Rattle.definition.specs.Patterns.{text, one-of, integer, xinteger, any-integer, suffixed, usuffixed}
 use Rattle.definition.specs.declared.Match.{Match}
 use Rattle.progress.proofs.Cases.{both, both-true}
-use Rattle.progress.proofs.Words.{plain, all-plain, begins-with}
+use Rattle.progress.proofs.Words.{all-plain}
 use Rattle.longest.proofs.Language.{At}
 use Rattle.longest.proofs.Ends.{Right, right-map, right-else}
 use Rattle.longest.proofs.Starts.{may-be-empty, starts, at-single, apart, listed-passes}
 use Rattle.longest.proofs.Shapes.{step-single, right-letter, text-right, plus-right}
 use Rattle.longest.proofs.Literals.{not-both}
+use Rattle.longest.proofs.Places.{suffix-like}
 use Rattle.longest.proofs.Continues.{two, two-listed, none-listed, right-two, two-else, right-branch, right-max, Continues, single-parted, run-continues, then-continues, alt-continues, continues-then}
 
 -- ---- integers
@@ -37,7 +38,7 @@ based letters p = seq (one-of letters) (some (chr p))
 abbrev binary : Re
 binary = based "bB" (λ c. mem-cp c (codes "01"))
 
--- The same of an octal or binary one.
+-- What stands behind that of an octal or a binary one.
 abbrev octal-or-binary : Re
 octal-or-binary = alt (based "oO" (between (ch "0") (ch "7"))) binary
 
@@ -60,30 +61,26 @@ octal-hex c t = digit-hex c (between-wider (ch "0") (ch "7") (ch "9") c (omega a
 
 -- ---- suffixes
 
--- A word that begins with no hexadecimal digit, and that a text can be searched for.
-abbrev pub is-suffix : String → Bool
-is-suffix w = begins-with (λ c. not (is-hex c)) (codes w)
-
--- What is so of its characters.
+-- What holds of the characters of a suffix.
 record Suffix (cs : List ℕ) : Type 0 where
   spelled : all-plain cs ≡ true
   full : may-be-empty (word cs) ≡ false
   other : (c : ℕ) → is-hex c ≡ true → starts (word cs) c ≡ true → ⊥
 
--- It is computed.
-suffix-is : (cs : List ℕ) → begins-with (λ c. not (is-hex c)) cs ≡ true → Suffix cs
+-- It is computed of them.
+suffix-is : (cs : List ℕ) → suffix-like cs ≡ true → Suffix cs
 suffix-is [] h = absurd (false≢true h)
 suffix-is (a ∷ cs) h =
-    let k = both (not (is-hex a)) (plain a && all-plain cs) h in
+    let k = both (not (is-hex a)) (all-plain (a ∷ cs)) h in
     record { spelled = k .1; full = refl; other = not-both is-hex a (not-true (is-hex a) (k .0)) }
 
 module _ (s : Bytes) where
-  -- An integer without a letter.
+  -- `match-integer` finds the longest run of digits.
   pub integer-right : (i : ℕ) → Right (At s integer i) (match-integer s i)
   unfolding match-integer
   integer-right i = plus-right s is-digit i
 
-  -- One with a letter.
+  -- `match-xinteger` finds the longest integer with a letter for its base.
   pub xinteger-right : (i : ℕ) → Right (At s xinteger i) (match-xinteger s i)
   unfolding match-xinteger mem-cp
   xinteger-right i =
@@ -104,7 +101,7 @@ module _ (s : Bytes) where
           subst (λ (p : ℕ → Bool). Right (At s (some (chr p)) j) (plus (two (ch "0") (ch "1")) s j)) (two-listed (ch "0") (ch "1"))
           (plus-right s (two (ch "0") (ch "1")) j)
 
-  -- Either.
+  -- The later of the two is the longest integer of either kind.
   pub any-integer-right : (i : ℕ) → Right (At s any-integer i) (max-list (any-integer-ends s i))
   unfolding any-integer-ends
   any-integer-right i = right-max (integer-right i) (xinteger-right i)
@@ -115,11 +112,11 @@ module _ (s : Bytes) where
   integer-continues : (i : ℕ) → Continues s is-hex (At s integer i)
   integer-continues i = run-continues s is-hex is-digit digit-hex i
 
-  -- The same of digits behind a letter.
+  -- The same holds of digits behind a letter.
   based-continues : (letters : String) (q : ℕ → Bool) → ((c : ℕ) → q c ≡ true → is-hex c ≡ true) → (i : ℕ) → Continues s is-hex (At s (based letters q) i)
   based-continues letters q f i = then-continues s is-hex (single-parted (At s (some (chr q))) (step-single s)) (run-continues s is-hex q f)
 
-  -- And of an integer with a letter.
+  -- So it holds of an integer with a letter.
   xinteger-continues : (i : ℕ) → Continues s is-hex (At s xinteger i)
   unfolding mem-cp is-hex is-digit
   xinteger-continues i =
@@ -130,7 +127,7 @@ module _ (s : Bytes) where
       (λ j k. apart s (based "oO" (between (ch "0") (ch "7"))) binary m j k refl refl (none-listed (codes "oO") (starts binary) refl)))
       (λ j k. apart s (based "xX" is-hex) octal-or-binary m j k refl refl (none-listed (codes "xX") (starts octal-or-binary) refl))
 
-  -- Something that begins with no hexadecimal digit, behind either.
+  -- So what begins with no hexadecimal digit is found behind the greatest end of either kind.
   behind-right : (q : Re) → may-be-empty q ≡ false → ((c : ℕ) → is-hex c ≡ true → starts q c ≡ true → ⊥) → {g : ℕ → Match} → ((j : ℕ) → Right (At s q j) (g j))
       → (i : ℕ) → Right (At s (seq any-integer q) i) (max-list (map (λ m. m then g) (any-integer-ends s i)))
   unfolding any-integer-ends
@@ -148,12 +145,12 @@ module _ (s : Bytes) where
       apart-to e (inl (m, a, b)) = (m, inl a, b)
       apart-to e (inr (m, a, b)) = (m, inr a, b)
 
-  -- An integer with a suffix.
-  pub suffix-right : (w : String) → is-suffix w ≡ true → (i : ℕ) → Right (At s (suffixed w) i) (match-int-suffix s i (cps w))
+  -- `match-int-suffix` finds an integer with a suffix.
+  pub suffix-right : (w : String) → suffix-like (codes w) ≡ true → (i : ℕ) → Right (At s (suffixed w) i) (match-int-suffix s i (cps w))
   unfolding match-int-suffix
   suffix-right w h i = let k = suffix-is (codes w) h in behind-right (text w) (k .full) (k .other) (text-right s w (k .spelled)) i
 
-  -- One with a suffix behind a `u`.
+  -- `match-int-usuffix` finds one with a suffix behind a u.
   pub usuffix-right : (w : String) → all-plain (codes w) ≡ true → (i : ℕ) → Right (At s (usuffixed w) i) (match-int-usuffix s i (cps w))
   unfolding match-int-usuffix mem-cp is-hex is-digit
   usuffix-right w h i =

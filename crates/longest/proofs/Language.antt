@@ -1,6 +1,6 @@
 -- What an expression permits, by offsets into one text: no encoding, `++` or `take` is seen after this file. Proved: a part is
 -- permitted exactly where the expression leads from its start to its end. Rests on the laws of a text.
-use Prim.Native.Nat.{ℕ, _+_, _≤_, _<_}
+use Prim.Native.Nat.{ℕ, _+_, _≤_}
 use mathlib.Core.Path.{_≡_, refl, sym, ap, subst, _∙_}
 use mathlib.Core.Bool.{Bool, true}
 use mathlib.Core.List.{List, [], _∷_, _++_, append-assoc}
@@ -14,7 +14,6 @@ use Rattle.definition.specs.Utf8.{encode, encode-all, Scalars, sequence-at}
 use Rattle.definition.specs.Regex.{Re, eps, chr, seq, alt, many, Many, none, more, In, Permits}
 use Rattle.definition.specs.declared.Sequence.the-variants.{Char}
 use Rattle.lemmas.proofs.Lists.{slice-then-drop}
-use Rattle.text.specs.Chars.{CharAt}
 use Rattle.text.proofs.Character.{char-read, char-within, read-at}
 use Rattle.text.proofs.Runs.{drop-next}
 
@@ -67,8 +66,7 @@ module _ (s : Bytes) where
   spell-bytes [] i e a = (tt, ap (λ (k : ℕ). drop k s) a, sym a ∙ sym (add-zero i))
   spell-bytes (c ∷ cs) i e (w, q, a) =
       let r = spell-bytes cs (i + w) e a in
-      let h = char-read q in
-      (
+      let h = char-read q in (
         (h .scalar, r .0),
         h .bytes ∙ ap (λ (l : Bytes). encode c ++ l) (r .1) ∙ sym (append-assoc (encode c) (encode-all cs) (drop e s)),
         omega (arith, r .2, h .width, length-append (encode c) (encode-all cs)),
@@ -81,8 +79,7 @@ module _ (s : Bytes) where
   bytes-spell (c ∷ cs) i rest sc h =
       let k : drop i s ≡ encode c ++ (encode-all cs ++ rest) = h ∙ append-assoc (encode c) (encode-all cs) rest in
       let w = length (encode c) in
-      let e : i + w + length (encode-all cs) ≡ i + length (encode c ++ encode-all cs) = omega (arith, length-append (encode c) (encode-all cs)) in
-      (
+      let e : i + w + length (encode-all cs) ≡ i + length (encode c ++ encode-all cs) = omega (arith, length-append (encode c) (encode-all cs)) in (
         w,
         read-at s i c (encode-all cs ++ rest) (sc .0) k,
         subst (Spell s cs (i + w)) e (bytes-spell cs (i + w) rest (sc .1) (drop-next s i c (encode-all cs ++ rest) k)),

@@ -6,6 +6,8 @@ pub mod Best
 pub mod Literals
 pub mod Backticks
 pub mod Families
+pub mod Places
+pub mod Choosing
 pub mod Continues
 pub mod Integers
 pub mod Floats

@@ -1,37 +1,35 @@
--- A line end, a character literal and a name in backticks: what each matcher finds is the longest end of its pattern.
--- Rests on the shapes and on the laws of loops.
-use Prim.Native.Nat.{ℕ, _+_, _-_, _≤_, _<_}
+-- A line end and a character literal: what each matcher finds is the longest end of its pattern. Rests on the shapes.
+use Prim.Native.Nat.{ℕ, _+_, _≤_}
 use mathlib.Core.Path.{_≡_, refl, sym, ap, subst, _∙_}
 use mathlib.Core.Bool.{Bool, true, false, not, _&&_, _||_, false≢true}
-use mathlib.Core.List.{List, [], _∷_}
-use mathlib.Core.Logic.{_⊎_, inl, inr}
+use mathlib.Core.List.{List}
+use mathlib.Core.Logic.{inl, inr}
 use native.Mathlib.Omega.{arith}
-use lib.Dec.{ltb, eqb}
-use lib.ListN.{length}
+use lib.Dec.{eqb}
 use borrow.Author.Tests.{eqb-true, not-true}
-use Rattle.definition.specs.Basics.{Bytes, ch, codes, mem-cp, if_then_else_}
+use Rattle.definition.specs.Basics.{Bytes, ch, codes, mem-cp}
 use Rattle.definition.specs.Utf8.{sequence-at}
 use Rattle.definition.specs.Text.{with-char, char-has, byte-has, byte-is}
 use Rattle.definition.specs.Chars.{is-hex, is-newline-char}
-use Rattle.definition.specs.Matchers.{_then_, only, one, match-newline, match-escape, match-char, match-char-lit}
-use Rattle.definition.specs.Regex.{Re, chr, seq, alt, word}
-use Rattle.definition.specs.Patterns.{text, one-of, nl, escape-char, any-char}
+use Rattle.definition.specs.Matchers.{only, one, match-newline, match-escape, match-char, match-char-lit}
+use Rattle.definition.specs.Regex.{Re, chr, seq, alt}
+use Rattle.definition.specs.Patterns.{text, nl, escape-char, any-char}
 use Rattle.definition.specs.declared.Sequence.{Sequence}
 use Rattle.definition.specs.declared.Sequence.the-variants.{Char, Bad, End}
 use Rattle.definition.specs.declared.Match.{Match}
 use Rattle.definition.specs.declared.Match.the-variants.{To, Nothing}
 use Rattle.progress.proofs.Cases.{by-test, both, either}
-use Rattle.progress.proofs.Matches.{Small, small-is, small-mem, small-hex}
+use Rattle.progress.proofs.Matches.{small-is, small-mem, small-hex}
 use Rattle.longest.proofs.Language.{Step, At}
 use Rattle.longest.proofs.Ends.{Right, Single, right-to, right-nothing, right-map, right-both, right-else, right-elim, right-if, right-then, Then, single-then, single-alt}
-use Rattle.longest.proofs.Starts.{may-be-empty, starts, step-same, step-code, at-single, at-first, at-ahead, apart}
-use Rattle.longest.proofs.Shapes.{byte-step, byte-right, has-byte, has-right, one-right, step-single, right-here, right-byte, right-has, right-letter}
+use Rattle.longest.proofs.Starts.{step-same, step-code, at-single, at-first, at-ahead, apart}
+use Rattle.longest.proofs.Shapes.{byte-step, byte-right, has-byte, one-right, step-single, right-here, right-byte, right-has, right-letter}
 
 -- A character that a test doesn't pass is none that passes it.
 pub not-both : (p : ℕ → Bool) (a : ℕ) → p a ≡ false → (c : ℕ) → p c ≡ true → eqb c a ≡ true → ⊥
 not-both p a n c t e = false≢true (sym n ∙ ap p (sym (eqb-true c a e)) ∙ t)
 
--- What a test finds, where it passes.
+-- Where a test passes, what it finds is there.
 found : {P : ℕ → Type 0} {e : ℕ} (t : Bool) → Right P (only t (To e)) → t ≡ true → P e
 found {e = e} true r q = r .fits e refl
 found false r q = absurd (false≢true q)
@@ -39,14 +37,14 @@ found false r q = absurd (false≢true q)
 module _ (s : Bytes) where
   -- ---- line ends
 
-  -- A carriage return and a line feed.
+  -- A carriage return and a line feed are found by their two tests.
   return-feed : (i : ℕ) → Right (At s (text "\r\n") i) (only (char-has (λ c. eqb c (ch "\r")) s i && byte-is (ch "\n") s (i + 1)) (To (i + 2)))
   return-feed i =
       right-both (To (i + 2)) (char-has (λ c. eqb c (ch "\r")) s i) (byte-is (ch "\n") s (i + 1))
       (right-has s (small-is (ch "\r") (omega arith)) i (i + 1) refl λ _.
       right-byte s (small-is (ch "\n") (omega arith)) (i + 1) (i + 2) (omega arith) λ _. right-here s)
 
-  -- A line end, of two characters or of one.
+  -- `match-newline` finds the longest line end, of two characters or of one.
   pub newline-right : (i : ℕ) → Right (At s nl i) (match-newline s i)
   unfolding match-newline
   newline-right i =
@@ -82,11 +80,11 @@ module _ (s : Bytes) where
   x-or-u : (c : ℕ) → eqb c (ch "x") ≡ true → eqb c (ch "u") ≡ true → ⊥
   x-or-u = not-both (λ c. eqb c (ch "x")) (ch "u") refl
 
-  -- What is behind a backslash excludes each other.
+  -- A letter excludes the two ways to give a number.
   letter-apart : (i j k : ℕ) → Step s (λ c. mem-cp c letters) i j → At s (alt short long) i k → ⊥
   letter-apart i j k a b = apart s (chr (λ c. mem-cp c letters)) (alt short long) i j k refl refl letter-or a b
 
-  -- The same of the two ways to give a number.
+  -- These exclude each other.
   short-apart : (i j k : ℕ) → At s short i j → At s long i k → ⊥
   short-apart i j k a b = apart s short long i j k refl refl x-or-u a b
 
@@ -96,11 +94,11 @@ module _ (s : Bytes) where
       single-then (at-single s (text "\\") i refl) (λ j.
       single-alt (step-single s) (single-alt (at-single s short j refl) (at-single s long j refl) (short-apart j)) (letter-apart j))
 
-  -- A hexadecimal digit at j, and a matcher behind it.
+  -- A hexadecimal digit at j is found first, and then what a matcher finds behind it.
   hex-then : {Q : ℕ → ℕ → Type 0} {m : Match} (j k : ℕ) → k ≡ j + 1 → Right (Q k) m → Right (Then (Step s is-hex j) Q) (only (byte-has is-hex s j) m)
   hex-then j k e h = right-byte s small-hex j k e (λ _. h)
 
-  -- A last one.
+  -- The last digit is found by its test.
   hex-last : (j k : ℕ) → k ≡ j + 1 → Right (Step s is-hex j) (only (byte-has is-hex s j) (To k))
   hex-last j k e = subst (λ (x : ℕ). Right (Step s is-hex j) (only (byte-has is-hex s j) (To x))) (sym e) (byte-right s small-hex j)
 
@@ -109,14 +107,14 @@ module _ (s : Bytes) where
     abbrev hex : ℕ → Bool
     hex k = byte-has is-hex s (i + k)
 
-    -- A letter behind the backslash.
+    -- A letter behind the backslash is found by its test.
     letter-right : Right (Step s (λ c. mem-cp c letters) (i + 1)) (only (byte-has (λ c. mem-cp c letters) s (i + 1)) (To (i + 2)))
     letter-right =
         let e : i + 1 + 1 ≡ i + 2 = omega arith in
         subst (λ (x : ℕ). Right (Step s (λ c. mem-cp c letters) (i + 1)) (only (byte-has (λ c. mem-cp c letters) s (i + 1)) (To x))) e
         (byte-right s (small-mem letters refl) (i + 1))
 
-    -- An x and two digits.
+    -- An x and two digits are found by their tests.
     short-right : Right (At s short (i + 1)) (only (byte-is (ch "x") s (i + 1) && (hex 2 && hex 3)) (To (i + 4)))
     short-right =
         right-both (To (i + 4)) (byte-is (ch "x") s (i + 1)) (hex 2 && hex 3)
@@ -124,7 +122,7 @@ module _ (s : Bytes) where
         right-both (To (i + 4)) (hex 2) (hex 3)
         (hex-then (i + 2) (i + 3) (omega arith) (hex-last (i + 3) (i + 4) (omega arith))))
 
-    -- A u and four.
+    -- A u and four digits are found by theirs.
     long-right : Right (At s long (i + 1)) (only (byte-is (ch "u") s (i + 1) && (hex 2 && (hex 3 && (hex 4 && hex 5)))) (To (i + 6)))
     long-right =
         right-both (To (i + 6)) (byte-is (ch "u") s (i + 1)) (hex 2 && (hex 3 && (hex 4 && hex 5)))
@@ -136,7 +134,7 @@ module _ (s : Bytes) where
         (right-both (To (i + 6)) (hex 4) (hex 5)
         (hex-then (i + 4) (i + 5) (omega arith) (hex-last (i + 5) (i + 6) (omega arith))))))))
 
-    -- An escape.
+    -- `match-escape` finds the end of an escape.
     escape-right : Right (At s escape-char i) (match-escape s i)
     unfolding match-escape
     escape-right =
@@ -148,7 +146,7 @@ module _ (s : Bytes) where
         (right-if b short-right (λ t k h. absurd (short-apart (i + 1) (i + 4) k (found b short-right t) h))
         (right-else (To (i + 6)) c long-right))
 
-    -- A character, or an escape.
+    -- `match-char` finds the end of a character or an escape.
     char-right : Right (At s any-char i) (match-char s i)
     unfolding match-char
     char-right = go (sequence-at s i) refl
@@ -182,7 +180,7 @@ module _ (s : Bytes) where
       single-alt (step-single s) (escape-single i)
       (λ j k a b. apart s (chr (λ c. not (eqb c (ch "\\")))) escape-char i j k refl refl (λ c t e. false≢true (sym (not-true _ t) ∙ e)) a b)
 
-  -- A character between quotes.
+  -- `match-char-lit` finds the end of a character between quotes.
   pub char-lit-right : (i : ℕ) → Right (At s (seq (text "'") (seq any-char (text "'"))) i) (match-char-lit s i false)
   unfolding match-char-lit
   char-lit-right i =
@@ -190,7 +188,7 @@ module _ (s : Bytes) where
       right-then (char-single (i + 1)) (char-right (i + 1)) λ j _.
       right-byte s (small-is (ch "'") (omega arith)) j (j + 1) refl λ _. right-here s
 
-  -- The same with a B behind it.
+  -- It finds the end of one with a B behind it, too.
   pub byte-lit-right : (i : ℕ) → Right (At s (seq (text "'") (seq any-char (text "'B"))) i) (match-char-lit s i true)
   unfolding match-char-lit
   byte-lit-right i =

@@ -3,37 +3,36 @@
 use Prim.Native.Nat.{ℕ, suc, _+_, _≤_, _<_}
 use Prim.Native.String.{String}
 use mathlib.Core.Path.{_≡_, refl, sym, ap, subst, _∙_}
-use mathlib.Core.Bool.{Bool, true, false, _&&_, _||_, false≢true}
+use mathlib.Core.Bool.{Bool, true, false, _&&_, false≢true}
 use mathlib.Core.List.{List, [], _∷_, _++_}
-use mathlib.Core.Logic.{_⊎_, inl, inr}
+use mathlib.Core.Logic.{inl}
 use native.Mathlib.Nat.{add-zero}
 use native.Mathlib.Numerals.{add-one}
 use native.Mathlib.Omega.{arith}
 use lib.Dec.{ltb, leb, eqb}
 use lib.ListN.{length, getD, drop, length-drop}
 use lib.Seq.{drop-cons, drop-drop, getD-drop}
-use borrow.Author.Tests.{eqb-true, eq-eqb, lt-ltb, ltb-true, leb-true}
+use borrow.Author.Tests.{eqb-true, eq-eqb, lt-ltb, ltb-true}
 use Rattle.definition.specs.Basics.{Bytes, codes}
-use Rattle.definition.specs.Utf8.{encode, encode-all, Scalar, Scalars, sequence-at}
+use Rattle.definition.specs.Utf8.{encode, encode-all, Scalars, sequence-at}
 use Rattle.definition.specs.Text.{with-char, char-has, byte-has, byte-is, star}
 use Rattle.definition.specs.Tables.{cps}
 use Rattle.definition.specs.Matchers.{_then_, only, one, match-lit, plus}
-use Rattle.definition.specs.Regex.{Re, chr, seq, many, some, char, word}
+use Rattle.definition.specs.Regex.{Re, chr, seq, many, some, word}
 use Rattle.definition.specs.Patterns.{text}
 use Rattle.definition.specs.declared.Sequence.{Sequence}
 use Rattle.definition.specs.declared.Sequence.the-variants.{Char, Bad, End}
 use Rattle.definition.specs.declared.Match.{Match}
 use Rattle.definition.specs.declared.Match.the-variants.{To, Nothing}
-use Rattle.lemmas.proofs.Tests.{by-order}
 use Rattle.text.proofs.Character.{by-size, char-read}
 use Rattle.text.proofs.Star.{star-on, star-from, by-star}
 use Rattle.progress.proofs.Cases.{by-test, both, either}
-use Rattle.progress.proofs.Characters.{char-at, ascii-at}
+use Rattle.progress.proofs.Characters.{ascii-at}
 use Rattle.progress.proofs.Walks.{byte-passes, char-passes}
 use Rattle.progress.proofs.Matches.{Small, small-is}
 use Rattle.progress.proofs.Words.{plain, all-plain}
 use Rattle.longest.proofs.Language.{Step, Chain, stop, step, At, Spell, spell-bytes, bytes-spell}
-use Rattle.longest.proofs.Ends.{Right, Single, some-end, right-to, right-nothing, right-single, right-map, right-only, right-last, right-then, right-head, Then}
+use Rattle.longest.proofs.Ends.{Right, Single, some-end, right-to, right-nothing, right-single, right-last, right-then, right-head, Then}
 use Rattle.longest.proofs.Starts.{may-be-empty, starts, step-on, step-has, step-same, step-code, chain-forward, at-first, at-ahead, at-single}
 
 -- ---- the characters of words
@@ -42,12 +41,11 @@ use Rattle.longest.proofs.Starts.{may-be-empty, starts, step-on, step-h
 pub plain-scalars : (cs : List ℕ) → all-plain cs ≡ true → Scalars cs
 plain-scalars [] p = tt
 plain-scalars (c ∷ cs) p =
-    let h = both (plain c) (all-plain cs) p in
-    (
+    let h = both (plain c) (all-plain cs) p in (
       either (ltb c 0x80) (leb 0x800 c && ltb c 0xD800)
-      (λ t. let l = ltb-true c 0x80 t in record { small = omega arith; plain = inl (omega arith) })
-      (λ t. let l = ltb-true c 0xD800 (both (leb 0x800 c) (ltb c 0xD800) t .1) in record { small = omega arith; plain = inl l })
-      (h .0),
+          (λ t. let l = ltb-true c 0x80 t in record { small = omega arith; plain = inl (omega arith) })
+          (λ t. let l = ltb-true c 0xD800 (both (leb 0x800 c) (ltb c 0xD800) t .1) in record { small = omega arith; plain = inl l })
+          (h .0),
       plain-scalars cs (h .1),
     )
 
@@ -60,12 +58,11 @@ encode-ascii c = by-size (λ l. c < 0x80 → l ≡ c ∷ []) c (λ _ _. refl) (�
 module _ (s : Bytes) where
   -- What the bytes from i on begin with is the byte at i, and what follows it is behind it.
   first-byte : (i b : ℕ) (l : Bytes) → drop i s ≡ b ∷ l → (i < length s) × (getD s i 0 ≡ b) × (drop (i + 1) s ≡ l)
-  first-byte i b l h =
-      (
-        omega (arith, length-drop i s, ap length h),
-        ap (λ (k : ℕ). getD s k 0) (sym (add-zero i)) ∙ sym (getD-drop i s 0 0) ∙ ap (λ (x : Bytes). getD x 0 0) h,
-        sym (drop-drop 1 i s) ∙ ap (drop 1) h,
-      )
+  first-byte i b l h = (
+    omega (arith, length-drop i s, ap length h),
+    ap (λ (k : ℕ). getD s k 0) (sym (add-zero i)) ∙ sym (getD-drop i s 0 0) ∙ ap (λ (x : Bytes). getD x 0 0) h,
+    sym (drop-drop 1 i s) ∙ ap (drop 1) h,
+  )
 
   -- A byte of the text that passes a test is found.
   byte-found : (p : ℕ → Bool) (i : ℕ) → i < length s → p (getD s i 0) ≡ true → byte-has p s i ≡ true
@@ -115,7 +112,7 @@ module _ (s : Bytes) where
 
   -- ---- one character
 
-  -- A character that passes a test.
+  -- `one` finds the character that passes a test.
   pub one-right : (p : ℕ → Bool) (i : ℕ) → Right (Step s p i) (one p s i)
   unfolding one
   one-right p i = go (sequence-at s i) refl
@@ -134,25 +131,25 @@ module _ (s : Bytes) where
 
   -- ---- a byte of ASCII and what is behind it
 
-  -- Nothing more.
+  -- Where nothing more is asked the end is here.
   pub right-here : {j : ℕ} → Right (λ e. j ≡ e) (To j)
   right-here = right-to refl (λ k h. omega arith)
 
-  -- A byte that passes a test for ASCII, and a matcher behind it.
+  -- A byte that passes a test for ASCII is found first, and then what a matcher finds behind it.
   pub right-byte : {p : ℕ → Bool} {Q : ℕ → ℕ → Type 0} {m : Match} → Small p → (i j : ℕ) → j ≡ i + 1 → (byte-has p s i ≡ true → Right (Q j) m)
       → Right (Then (Step s p i) Q) (only (byte-has p s i) m)
   right-byte {p} small i j e h =
       right-head j (byte-has p s i) step-single
       (subst (λ (k : ℕ). Right (Step s p i) (only (byte-has p s i) (To k))) (sym e) (byte-right small i)) h
 
-  -- The same by a test of the character.
+  -- The same holds by a test of the character.
   pub right-has : {p : ℕ → Bool} {Q : ℕ → ℕ → Type 0} {m : Match} → Small p → (i j : ℕ) → j ≡ i + 1 → (char-has p s i ≡ true → Right (Q j) m)
       → Right (Then (Step s p i) Q) (only (char-has p s i) m)
   right-has {p} small i j e h =
       right-head j (char-has p s i) step-single
       (subst (λ (k : ℕ). Right (Step s p i) (only (char-has p s i) (To k))) (sym e) (has-right small i)) h
 
-  -- A word of one letter of ASCII, and a matcher behind it.
+  -- The same holds of a word of one letter of ASCII.
   pub right-letter : {Q : ℕ → ℕ → Type 0} {m : Match} (c : ℕ) → c < 0x80 → (i j : ℕ) → j ≡ i + 1 → (byte-is c s i ≡ true → Right (Q j) m)
       → Right (Then (At s (word (c ∷ [])) i) Q) (only (byte-is c s i) m)
   right-letter c small i j e h = right-head j (byte-is c s i) (at-single s (word (c ∷ [])) i refl) (right-byte (small-is c small) i j e (λ _. right-here)) h
@@ -196,7 +193,7 @@ module _ (s : Bytes) where
   spell-word [] i e h = h
   spell-word (c ∷ cs) i e (w, q, h) = (i + w, record { code = c; width = w; read = q; ends = refl; passes = eq-eqb c c refl }, spell-word cs (i + w) e h)
 
-  -- A word is matched byte by byte.
+  -- So `match-lit` finds a word, byte by byte.
   pub word-right : (cs : List ℕ) → Scalars cs → (i : ℕ) → Right (At s (word cs) i) (match-lit s (encode-all cs) i)
   word-right cs sc i = right-single found finds
     where
@@ -210,14 +207,14 @@ module _ (s : Bytes) where
           let b = spell-bytes s cs i e (word-spell cs i e h) in
           lit-finds (encode-all cs) i (drop e s) (b .1) ∙ ap To (sym (b .2))
 
-  -- A word as it is spelled.
+  -- It finds a word as it is spelled.
   pub text-right : (w : String) → all-plain (codes w) ≡ true → (i : ℕ) → Right (At s (text w) i) (match-lit s (cps w) i)
   unfolding cps
   text-right w p i = word-right (codes w) (plain-scalars (codes w) p) i
 
   -- ---- runs
 
-  -- A run of characters that pass a test.
+  -- `star` ends the longest run of characters that pass a test.
   pub star-right : (p : ℕ → Bool) (i : ℕ) → Right (Chain (Step s p) i) (To (star p s i))
   star-right p i = right-to (run i) (λ k h. reach h)
     where
@@ -232,12 +229,12 @@ module _ (s : Bytes) where
           let q : star p s i ≡ star p s j = star-on p s i (a .code) (a .width) (a .read) (a .passes) ∙ ap (star p s) (sym (a .ends)) in
           omega (arith, reach h)
 
-  -- One or more.
+  -- `plus` ends the longest run of one or more.
   pub plus-right : (p : ℕ → Bool) (i : ℕ) → Right (At s (some (chr p)) i) (plus p s i)
   unfolding plus
   plus-right p i = right-then step-single (one-right p i) (λ j h. star-right p j)
 
-  -- Where a run goes on, so does a step.
+  -- Where a run goes on, a character that passes stands.
   chain-next : {p : ℕ → Bool} {i e : ℕ} → Chain (Step s p) i e → i < e → (k : ℕ) × Step s p i k
   chain-next (stop q) h = absurd (omega arith)
   chain-next (step j a k) h = (j, a)

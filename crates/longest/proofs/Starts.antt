@@ -2,10 +2,10 @@
 -- for one in front of a matcher changes nothing, and two expressions with no first character in common exclude each other.
 -- Rests on the language over offsets.
 use Prim.Native.Nat.{ℕ, _+_, _≤_, _<_}
-use mathlib.Core.Path.{_≡_, refl, sym, ap, subst, _∙_}
+use mathlib.Core.Path.{_≡_, refl, sym, subst, _∙_}
 use mathlib.Core.Bool.{Bool, true, false, _&&_, _||_, false≢true}
 use mathlib.Core.List.{List, [], _∷_}
-use mathlib.Core.Logic.{_⊎_, inl, inr}
+use mathlib.Core.Logic.{inl, inr}
 use native.Mathlib.Omega.{arith}
 use lib.Dec.{eqb}
 use lib.ListN.{length}
@@ -19,7 +19,7 @@ use Rattle.definition.specs.declared.Sequence.the-variants.{Char}
 use Rattle.definition.specs.declared.Match.{Match}
 use Rattle.text.proofs.Character.{char-read, char-within}
 use Rattle.lemmas.proofs.Tests.{by-order}
-use Rattle.progress.proofs.Cases.{both, either, by-test}
+use Rattle.progress.proofs.Cases.{both, by-test}
 use Rattle.longest.proofs.Language.{Step, Chain, stop, step, At}
 use Rattle.longest.proofs.Ends.{Right, right-only, Single, single-then}
 
@@ -41,12 +41,12 @@ starts (many r) c = starts r c
 
 -- ---- tests
 
--- A disjunction passes where its first test does, or where its second does.
+-- A disjunction passes where its first test does.
 pub left : (a b : Bool) → a ≡ true → a || b ≡ true
 left true b e = refl
 left false b e = absurd (false≢true e)
 
--- The same of its second.
+-- It passes where its second does.
 pub right : (a b : Bool) → b ≡ true → a || b ≡ true
 right true b e = refl
 right false b e = e
@@ -96,13 +96,13 @@ one-way (seq r q) = one-way r && one-way q
 one-way (alt r q) = false
 one-way (many r) = false
 
--- What holds where the expression isn't passed over, and where it is, of an expression with another behind it.
+-- Where not both are true, one of them is false.
 by-empty : (a b : Bool) {X : Type 0} → a && b ≡ false → (a ≡ false → X) → (b ≡ false → X) → X
 by-empty true b e f g = g e
 by-empty false b e f g = f refl
 
 module _ (s : Bytes) where
-  -- Steps that never lead back don't either.
+  -- A chain of steps that never lead back doesn't lead back.
   pub chain-forward : {P : ℕ → ℕ → Type 0} → ((i e : ℕ) → P i e → i ≤ e) → {i e : ℕ} → Chain P i e → i ≤ e
   chain-forward f (stop q) = omega arith
   chain-forward f {i} (step j a k) = omega (arith, f i j a, chain-forward f k)
@@ -142,15 +142,15 @@ module _ (s : Bytes) where
   abbrev pub First : Re → ℕ → Type 0
   First r i = (k : ℕ) × Step s (starts r) i k
 
-  -- What is first of the first part, or where that is passed over of the second, is first of both.
+  -- A first character of the first part is one of both parts.
   first-seq : (r q : Re) {i k : ℕ} → Step s (starts r) i k → Step s (starts (seq r q)) i k
   first-seq r q = step-map (λ c t. by-test (λ (b : Bool). b ≡ true) (may-be-empty r) (λ _. left (starts r c) (starts q c) t) (λ _. t))
 
-  -- The same of the second.
+  -- So is one of the second part, where the first may be empty.
   first-behind : (r q : Re) {i k : ℕ} → may-be-empty r ≡ true → Step s (starts q) i k → Step s (starts (seq r q)) i k
   first-behind r q e = step-map (λ c t. by-test (λ (b : Bool). b ≡ true) (may-be-empty r) (λ _. right (starts r c) (starts q c) t) (λ n. absurd (false≢true (sym n ∙ e))))
 
-  -- The first step that moves on has a first character.
+  -- A chain that moves on has the first character of its first step that does.
   chain-first : {P : ℕ → ℕ → Type 0} {X : ℕ → Type 0} → ((i e : ℕ) → P i e → i < e → X i) → ((i e : ℕ) → P i e → i ≤ e) → {i e : ℕ} → Chain P i e → i < e → X i
   chain-first f g (stop q) h = absurd (omega arith)
   chain-first {X = X} f g {i} (step j a k) h =
