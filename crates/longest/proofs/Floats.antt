@@ -20,7 +20,7 @@ use Rattle.progress.proofs.Matches.{small-is, small-digit}
 use Rattle.longest.proofs.Language.{At}
 use Rattle.longest.proofs.Ends.{Right, Single, right-map, right-later, right-then, single-then, single-alt}
 use Rattle.longest.proofs.Starts.{may-be-empty, starts, at-single, apart, all-pass}
-use Rattle.longest.proofs.Shapes.{byte-right, step-single, right-here, right-byte, right-letter, star-right, run-more, star-then}
+use Rattle.longest.proofs.Shapes.{byte-right, step-single, right-here, right-byte, right-letter, star-right, run-more}
 use Rattle.longest.proofs.Literals.{not-both}
 use Rattle.longest.proofs.Continues.{two, none-listed, right-two, two-else, right-branch, Continues, single-parted, parted-then, run-continues, then-continues, continues-parted, continues-then}
 use Rattle.longest.proofs.Integers.{integer-right}
@@ -131,7 +131,7 @@ module _ (s : Bytes) where
 
     -- It is found behind a run of digits.
     digits-exponent : (j : ℕ) → Right (At s (seq (many (chr is-digit)) (exponent t)) j) (only (byte-has is-e s (star is-digit s j)) (g (skip-sign s (star is-digit s j + 1))))
-    digits-exponent j = star-then s is-digit (exponent t) j refl digit-or-letter exponent-right
+    digits-exponent j = continues-then s is-digit (λ a b x y h. run-more s x y h) (exponent t) refl digit-or-letter (star-right s is-digit j) exponent-right
 
     -- It is found with a point and digits in front of it, and without.
     fraction-exponent : (j : ℕ) → Right (At s (seq (opt fraction) (exponent t)) j)

@@ -1,5 +1,5 @@
--- The shapes that patterns have, each with its matcher, over any class of characters: one character, a byte of ASCII, a word, a run,
--- and a run with something behind it that begins with none of its characters. Rests on the laws of a text and of right answers.
+-- The shapes that patterns have, each with its matcher, over any class of characters: one character, a byte of ASCII, a word and a run.
+-- Rests on the laws of a text and of right answers.
 use Prim.Native.Nat.{ℕ, suc, _+_, _≤_, _<_}
 use Prim.Native.String.{String}
 use mathlib.Core.Path.{_≡_, refl, sym, ap, subst, _∙_}
@@ -17,8 +17,8 @@ use Rattle.definition.specs.Basics.{Bytes, codes}
 use Rattle.definition.specs.Utf8.{encode, encode-all, Scalars, sequence-at}
 use Rattle.definition.specs.Text.{with-char, char-has, byte-has, byte-is, star}
 use Rattle.definition.specs.Tables.{cps}
-use Rattle.definition.specs.Matchers.{_then_, only, one, match-lit, plus}
-use Rattle.definition.specs.Regex.{Re, chr, seq, many, some, word}
+use Rattle.definition.specs.Matchers.{only, one, match-lit, plus}
+use Rattle.definition.specs.Regex.{chr, some, word}
 use Rattle.definition.specs.Patterns.{text}
 use Rattle.definition.specs.declared.Sequence.{Sequence}
 use Rattle.definition.specs.declared.Sequence.the-variants.{Char, Bad, End}
@@ -32,8 +32,8 @@ use Rattle.progress.proofs.Walks.{byte-passes, char-passes}
 use Rattle.progress.proofs.Matches.{Small, small-is}
 use Rattle.progress.proofs.Words.{plain, all-plain}
 use Rattle.longest.proofs.Language.{Step, Chain, stop, step, At, Spell, spell-bytes, bytes-spell}
-use Rattle.longest.proofs.Ends.{Right, Single, some-end, right-to, right-nothing, right-single, right-last, right-then, right-head, Then}
-use Rattle.longest.proofs.Starts.{may-be-empty, starts, step-on, step-has, step-same, step-code, chain-forward, at-first, at-ahead, at-single}
+use Rattle.longest.proofs.Ends.{Right, Single, some-end, right-to, right-nothing, right-single, right-then, right-head, Then}
+use Rattle.longest.proofs.Starts.{step-on, step-has, step-same, step-code, chain-forward, at-single}
 
 -- ---- the characters of words
 
@@ -244,21 +244,3 @@ module _ (s : Bytes) where
   run-more {p} {k = k} (stop q) d h = chain-next (subst (λ (x : ℕ). Chain (Step s p) x k) q d) h
   run-more (step m a c) (stop q) h = absurd (omega (arith, step-on a .0, chain-forward s (λ x y t. omega (arith, step-on t .0)) c))
   run-more {p} {k = k} (step m a c) (step n b d) h = run-more c (subst (λ (x : ℕ). Chain (Step s p) x k) (step-same b a .0) d) h
-
-  module _ (p : ℕ → Bool) (q : Re) (i : ℕ) {f : ℕ → Match} (full : may-be-empty q ≡ false) (other : (c : ℕ) → p c ≡ true → starts q c ≡ true → ⊥)
-      (after : (j : ℕ) → Right (At s q j) (f j)) where
-    -- No run goes on where something stands that begins with another character.
-    stuck : (j k e : ℕ) → Chain (Step s p) i j → Chain (Step s p) i k → j < k → At s q j e → ⊥
-    stuck j k e a b h t =
-        let x = run-more a b h .1 in
-        let y = at-first s q j e t (at-ahead s q j e full t) .1 in
-        other (x .code) (x .passes) (step-same x y .1)
-
-    -- A run and something that begins with none of its characters: it goes on from the end of the run alone.
-    pub star-then : Right (At s (seq (many (chr p)) q) i) (f (star p s i))
-    star-then = right-last stuck (star-right p i) (λ j h. after j)
-
-    -- The same of a run of one or more.
-    pub plus-then : Right (At s (seq (some (chr p)) q) i) (plus p s i then f)
-    plus-then =
-        right-last (λ j k e a b h t. stuck j k e (step (a .0) (a .1) (a .2)) (step (b .0) (b .1) (b .2)) h t) (plus-right p i) (λ j h. after j)
