@@ -1,0 +1,3 @@
+// No code: the law that the choice of the definition is the longest. Proved (in proofs/): at every boundary of a legal text, and for
+// every class file, `select` takes the longest part that any of the 50 patterns permits, and of those the one of the earliest place.
+// Assumed: nothing.
