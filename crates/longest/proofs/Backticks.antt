@@ -16,8 +16,8 @@ use Rattle.definition.specs.Regex.{Re, seq, alt, some}
 use Rattle.definition.specs.Patterns.{text, plain}
 use Rattle.definition.specs.declared.Match.{Match}
 use Rattle.definition.specs.declared.Match.the-variants.{To, Nothing}
-use Rattle.progress.proofs.Cases.{by-match}
-use Rattle.progress.proofs.Loops.{Leads, Falls, loop-gives}
+use Rattle.lemmas.proofs.Cases.{by-match}
+use Rattle.lemmas.proofs.Loops.{Leads, Falls, loop-gives}
 use Rattle.progress.proofs.Matches.{small-is}
 use Rattle.longest.proofs.Language.{Step, Chain, stop, step, At}
 use Rattle.longest.proofs.Ends.{Right, Single, some-end, right-map, right-only, right-both, right-head, single-alt}

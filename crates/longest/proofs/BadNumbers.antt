@@ -18,10 +18,10 @@ use Rattle.definition.specs.Regex.{Re, eps, chr, seq, alt, many, some}
 use Rattle.definition.specs.Patterns.{integer, xinteger, floatp, floate, ieee64, xieee64}
 use Rattle.definition.specs.declared.Match.{Match}
 use Rattle.definition.specs.declared.Match.the-variants.{To, Nothing}
-use Rattle.lemmas.proofs.Tests.{by-order}
-use Rattle.progress.proofs.Cases.{either}
+use Rattle.lemmas.proofs.Cases.{by-order}
+use Rattle.lemmas.proofs.Cases.{either}
 use Rattle.progress.proofs.Matches.{small-hex}
-use Rattle.progress.proofs.Lists.{none-left, _⨾_, each-map}
+use Rattle.lemmas.proofs.Each.{none-left, _⨾_, each-map}
 use Rattle.progress.proofs.Ends.{Ends as Each-end, ends-then, ends-max}
 use Rattle.longest.proofs.Language.{Step, Chain, stop, step, At}
 use Rattle.longest.proofs.Ends.{Right, Single, single-found, right-later}

@@ -16,8 +16,8 @@ use Rattle.definition.specs.Select.{none-at, keep, found, try-words, try-all}
 use Rattle.definition.specs.declared.Choice.{Choice}
 use Rattle.definition.specs.declared.Match.{Match}
 use Rattle.definition.specs.declared.Match.the-variants.{To, Nothing}
-use Rattle.progress.proofs.Cases.{by-if-lt, both}
-use Rattle.progress.proofs.Lists.{Numbered, no-more, _⨟_}
+use Rattle.lemmas.proofs.Cases.{by-if-lt, both}
+use Rattle.lemmas.proofs.Each.{Numbered, no-more, _⨟_}
 use Rattle.longest.proofs.Ends.{Right, some-end}
 
 -- ---- what one place chooses

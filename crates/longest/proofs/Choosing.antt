@@ -26,9 +26,9 @@ use Rattle.definition.specs.declared.Choice.{Choice}
 use Rattle.definition.specs.declared.Sequence.the-variants.{Char}
 use Rattle.definition.specs.declared.Match.{Match}
 use Rattle.definition.specs.declared.Match.the-variants.{To, Nothing}
-use Rattle.lemmas.proofs.Tests.{by-order}
-use Rattle.progress.proofs.Cases.{by-test, by-lt, both, either}
-use Rattle.progress.proofs.Lists.{Numbered, no-more, _⨟_}
+use Rattle.lemmas.proofs.Cases.{by-order}
+use Rattle.lemmas.proofs.Cases.{by-test, by-lt, both, either}
+use Rattle.lemmas.proofs.Each.{Numbered, no-more, _⨟_}
 use Rattle.progress.proofs.Walks.{char-passes}
 use Rattle.longest.proofs.Language.{Step, stop, At, at-permits, permits-at}
 use Rattle.longest.proofs.Ends.{Right, right-to, right-nothing}

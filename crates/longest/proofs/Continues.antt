@@ -14,7 +14,7 @@ use Rattle.definition.specs.Text.{byte-has}
 use Rattle.definition.specs.Matchers.{_then_, max-list, only}
 use Rattle.definition.specs.Regex.{Re, chr, some}
 use Rattle.definition.specs.declared.Match.{Match}
-use Rattle.lemmas.proofs.Tests.{by-order}
+use Rattle.lemmas.proofs.Cases.{by-order}
 use Rattle.progress.proofs.Matches.{Small, small-is, small-or}
 use Rattle.longest.proofs.Language.{Step, step, At}
 use Rattle.longest.proofs.Ends.{Right, Single, some-end, right-nothing, right-map, right-later, right-last, Then}

@@ -11,7 +11,7 @@ use Rattle.definition.specs.Basics.{if_then_else_}
 use Rattle.definition.specs.Matchers.{_then_, later, only}
 use Rattle.definition.specs.declared.Match.{Match}
 use Rattle.definition.specs.declared.Match.the-variants.{To, Nothing}
-use Rattle.lemmas.proofs.Tests.{by-order}
+use Rattle.lemmas.proofs.Cases.{by-order}
 
 -- The greatest of the ends that P has, or that it has none.
 pub record Right (P : ℕ → Type 0) (m : Match) : Type 0 where

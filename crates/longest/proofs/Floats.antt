@@ -15,7 +15,7 @@ use Rattle.definition.specs.Regex.{Re, chr, seq, many, opt}
 use Rattle.definition.specs.Patterns.{text, one-of, integer, floatp, floate}
 use Rattle.definition.specs.declared.Match.{Match}
 use Rattle.definition.specs.declared.Match.the-variants.{To}
-use Rattle.progress.proofs.Cases.{either}
+use Rattle.lemmas.proofs.Cases.{either}
 use Rattle.progress.proofs.Matches.{small-is, small-digit}
 use Rattle.longest.proofs.Language.{At}
 use Rattle.longest.proofs.Ends.{Right, Single, right-map, right-later, right-then, single-then, single-alt}

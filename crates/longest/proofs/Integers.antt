@@ -18,7 +18,7 @@ use Rattle.definition.specs.Matchers.{_then_, max-list, plus, match-integer, ma
 use Rattle.definition.specs.Regex.{Re, chr, seq, alt, some, word}
 use Rattle.definition.specs.Patterns.{text, one-of, integer, xinteger, any-integer, suffixed, usuffixed}
 use Rattle.definition.specs.declared.Match.{Match}
-use Rattle.progress.proofs.Cases.{both, both-true}
+use Rattle.lemmas.proofs.Cases.{both, both-true}
 use Rattle.progress.proofs.Words.{all-plain}
 use Rattle.longest.proofs.Language.{At}
 use Rattle.longest.proofs.Ends.{Right, right-map, right-else}

@@ -18,7 +18,7 @@ use Rattle.definition.specs.declared.Sequence.{Sequence}
 use Rattle.definition.specs.declared.Sequence.the-variants.{Char, Bad, End}
 use Rattle.definition.specs.declared.Match.{Match}
 use Rattle.definition.specs.declared.Match.the-variants.{To, Nothing}
-use Rattle.progress.proofs.Cases.{by-test, both, either}
+use Rattle.lemmas.proofs.Cases.{by-test, both, either}
 use Rattle.progress.proofs.Matches.{small-is, small-mem, small-hex}
 use Rattle.longest.proofs.Language.{Step, At}
 use Rattle.longest.proofs.Ends.{Right, Single, right-to, right-nothing, right-map, right-both, right-else, right-elim, right-if, right-then, Then, single-then, single-alt}

@@ -25,9 +25,9 @@ use Rattle.definition.specs.declared.Choice.{Choice}
 use Rattle.definition.specs.declared.Sequence.the-variants.{Char}
 use Rattle.definition.specs.declared.Match.{Match}
 use Rattle.definition.specs.declared.Match.the-variants.{To, Nothing}
-use Rattle.lemmas.proofs.Tests.{by-order}
-use Rattle.progress.proofs.Cases.{by-test, either}
-use Rattle.progress.proofs.Lists.{Numbered, no-more, _⨟_}
+use Rattle.lemmas.proofs.Cases.{by-order}
+use Rattle.lemmas.proofs.Cases.{by-test, either}
+use Rattle.lemmas.proofs.Each.{Numbered, no-more, _⨟_}
 use Rattle.progress.proofs.Words.{all-plain}
 use Rattle.longest.proofs.Language.{At}
 use Rattle.longest.proofs.Ends.{Right, some-end, right-later}

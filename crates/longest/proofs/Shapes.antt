@@ -26,7 +26,7 @@ use Rattle.definition.specs.declared.Match.{Match}
 use Rattle.definition.specs.declared.Match.the-variants.{To, Nothing}
 use Rattle.text.proofs.Character.{by-size, char-read}
 use Rattle.text.proofs.Star.{star-on, star-from, by-star}
-use Rattle.progress.proofs.Cases.{by-test, both, either}
+use Rattle.lemmas.proofs.Cases.{by-test, both, either}
 use Rattle.progress.proofs.Characters.{ascii-at}
 use Rattle.progress.proofs.Walks.{byte-passes, char-passes}
 use Rattle.progress.proofs.Matches.{Small, small-is}

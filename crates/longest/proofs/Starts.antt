@@ -18,8 +18,8 @@ use Rattle.definition.specs.Matchers.{only}
 use Rattle.definition.specs.declared.Sequence.the-variants.{Char}
 use Rattle.definition.specs.declared.Match.{Match}
 use Rattle.text.proofs.Character.{char-read, char-within}
-use Rattle.lemmas.proofs.Tests.{by-order}
-use Rattle.progress.proofs.Cases.{both, by-test}
+use Rattle.lemmas.proofs.Cases.{by-order}
+use Rattle.lemmas.proofs.Cases.{both, by-test}
 use Rattle.longest.proofs.Language.{Step, Chain, stop, step, At}
 use Rattle.longest.proofs.Ends.{Right, right-only, Single, single-then}
 
