@@ -1,5 +1,5 @@
--- The laws of the count, for any weight: it is cut at any place; and of the count of characters: it is at most the bytes, and the
--- loop that makes it. Rests on nothing but the definition.
+-- The laws of the count and of columns, for any weight: a count is cut at any place, the loop that makes it, the column that goes on
+-- from a known one; and that the count of characters is at most the bytes. Rests on nothing but the definition.
 use Prim.Native.Nat.{ℕ, zero, suc, _+_, _-_, _≤_, _<_}
 use native.Mathlib.Nat.{zero-add, suc-add, add-assoc, add-suc, add-zero}
 use native.Mathlib.Numerals.{add-one}
@@ -38,7 +38,7 @@ column-on w s st k i h l =
 -- ---- the count of characters
 
 -- what a byte counts
-unit-is : (s : Bytes) (i : ℕ) → weight-at one-each s i ≡ unit (getD s i 0)
+pub unit-is : (s : Bytes) (i : ℕ) → weight-at one-each s i ≡ unit (getD s i 0)
 unfolding weight-at unit
 unit-is s i = refl
 
@@ -73,54 +73,63 @@ pub column-small : (s : Bytes) (st : State) (i : ℕ) → col-of s st i ≤ st .
 unfolding col-by
 column-small s st i = omega (arith, count-small s (st .bol) (i - st .bol))
 
--- ---- the loop: n characters are counted in the bytes from i up to k, and those from k up to j are left
+-- ---- the loop that counts, by any weight: n is the count of the bytes from i up to k, and those from k up to j are left
 
-pub record Counting (s : Bytes) (i j n k : ℕ) : Type 0 where
-  pub few : n + i ≤ k
-  pub left : n + count-chars one-each s k (j - k) ≡ count-chars one-each s i (j - i)
+pub record Counting (w : Weight) (s : Bytes) (i j n k : ℕ) : Type 0 where
+  pub on : i ≤ k
+  pub left : n + count-chars w s k (j - k) ≡ count-chars w s i (j - i)
 
-pub counting-starts : (s : Bytes) (i j : ℕ) → Counting s i j 0 i
-counting-starts s i j = record { few = omega arith; left = zero-add (count-chars one-each s i (j - i)) }
+module _ (w : Weight) (s : Bytes) (i j : ℕ) where
+  pub counting-starts : Counting w s i j 0 i
+  counting-starts = record { on = omega arith; left = zero-add (count-chars w s i (j - i)) }
 
-pub counting-goes-on : (s : Bytes) (i j n k : ℕ) → k < j → Counting s i j n k → Counting s i j (n + unit (getD s k 0)) (k + 1)
-unfolding count-chars
-counting-goes-on s i j n k h c =
-    let m : j - k ≡ suc (j - (k + 1)) = omega arith in
-    let e : count-chars one-each s k (j - k) ≡ weight-at one-each s k + count-chars one-each s (suc k) (j - (k + 1)) =
-    ap (count-chars one-each s k) m
-    in
+  pub counting-goes-on : (n k : ℕ) → k < j → Counting w s i j n k → Counting w s i j (n + weight-at w s k) (k + 1)
+  unfolding count-chars
+  counting-goes-on n k h c =
+      let m : j - k ≡ suc (j - (k + 1)) = omega arith in
+      let e : count-chars w s k (j - k) ≡ weight-at w s k + count-chars w s (suc k) (j - (k + 1)) = ap (count-chars w s k) m in
+      let l = c .left in
+      let f = c .on in
+      record { on = omega arith; left = rw add-one (omega (arith, rw add-one at e)) }
+
+  pub counting-ends : (n k : ℕ) → j ≤ k → Counting w s i j n k → n ≡ count-chars w s i (j - i)
+  unfolding count-chars
+  counting-ends n k h c =
+      let m : j - k ≡ 0 = omega arith in
+      let l = c .left in
+      omega (arith, ap (count-chars w s k) m)
+
+-- the count of characters is at most the bytes that were counted
+pub counted-small : (s : Bytes) (i j n k : ℕ) → k ≤ j → Counting one-each s i j n k → n ≤ k - i
+counted-small s i j n k h c =
     let l = c .left in
-    let f = c .few in
-    record {
-      few = omega (arith, unit-small (getD s k 0));
-      left = rw add-one (omega (arith, unit-is s k, rw add-one at e));
-    }
-
-pub counting-ends : (s : Bytes) (i j n k : ℕ) → j ≤ k → Counting s i j n k → n ≡ count-chars one-each s i (j - i)
-unfolding count-chars
-counting-ends s i j n k h c =
-    let m : j - k ≡ 0 = omega arith in
-    let l = c .left in
-    omega (arith, ap (count-chars one-each s k) m)
+    let o = c .on in
+    let a : i + (k - i) ≡ k = omega arith in
+    let b : k - i + (j - k) ≡ j - i = omega arith in
+    let e = rw a at (count-split one-each s i (k - i) (j - k)) in
+    omega (arith, e, ap (count-chars one-each s i) b, count-small s i (k - i))
 
 -- ---- the cache
 
 -- what `col_of` hands back is known
-pub known-again : (s : Bytes) (st : State) (i : ℕ) → st .bol ≤ i → Known s st (column-at s st i)
-known-again s st i h = record { after = h; column = refl }
+pub known-again : (w : Weight) (s : Bytes) (st : State) (i : ℕ) → st .bol ≤ i → Known w s st (column-at w s st i)
+known-again w s st i h = record { after = h; column = refl }
 
 -- from the known offset on
-pub from-known : (s : Bytes) (st : State) (known : Cache) (i n : ℕ) → Asked s st known i → known .off ≤ i → n ≡ count-chars one-each s (known .off) (i - known .off)
-    → _≡_ {A = Cache} (record { off = i; col = known .col + n }) (column-at s st i)
-from-known s st known i n a h e =
+pub from-known : (w : Weight) (s : Bytes) (st : State) (known : Cache) (i n : ℕ)
+    → Asked w s st known i
+    → known .off ≤ i
+    → n ≡ count-chars w s (known .off) (i - known .off)
+    → _≡_ {A = Cache} (record { off = i; col = known .col + n }) (column-at w s st i)
+from-known w s st known i n a h e =
     ap (λ (x : ℕ). record { off = i; col = x })
-    (rw (a .cached .column, e) (column-on one-each s st (known .off) i (a .cached .after) h))
+    (rw (a .cached .column, e) (column-on w s st (known .off) i (a .cached .after) h))
 
 -- from the line start on
-pub from-start : (s : Bytes) (st : State) (i n : ℕ) → n ≡ count-chars one-each s (st .bol) (i - st .bol)
-    → _≡_ {A = Cache} (record { off = i; col = st .column + n }) (column-at s st i)
+pub from-start : (w : Weight) (s : Bytes) (st : State) (i n : ℕ) → n ≡ count-chars w s (st .bol) (i - st .bol)
+    → _≡_ {A = Cache} (record { off = i; col = st .column + n }) (column-at w s st i)
 unfolding col-by
-from-start s st i n e = ap (λ (x : ℕ). record { off = i; col = st .column + x }) e
+from-start w s st i n e = ap (λ (x : ℕ). record { off = i; col = st .column + x }) e
 
 -- ---- the numbers stay small
 
@@ -129,7 +138,7 @@ pub count-fits : (s : Bytes) (a i n : ℕ) → i ≤ 1048576 → n ≡ count-cha
 count-fits s a i n h e = omega (arith, e, count-small s a (i - a))
 
 -- the column of an offset that may be asked for
-pub column-fits : {s : Bytes} {st : State} {known : Cache} {i : ℕ} (c : Cache) → Asked s st known i → c ≡ column-at s st i → c .col ≤ 2048576
+pub column-fits : {s : Bytes} {st : State} {known : Cache} {i : ℕ} (c : Cache) → Asked one-each s st known i → c ≡ column-at one-each s st i → c .col ≤ 2048576
 column-fits {s} {st} {i = i} c a e =
     let m = a .margin in
     let t = a .to in

@@ -4,13 +4,13 @@ use Prim.Native.Nat.{ℕ, zero, suc, _+_, _-_, _≤_, _<_}
 use native.Mathlib.Nat.{add-zero, zero-add}
 use native.Mathlib.Omega.{arith}
 use mathlib.Core.Path.{_≡_, refl, sym, ap, ap₂, _∙_}
-use mathlib.Core.Bool.{true, false}
+use mathlib.Core.Bool.{true}
 use mathlib.Core.List.{List, [], _∷_, _++_, append-assoc}
 use lib.ListN.{length, getD, drop, length-append}
-use lib.Seq.{slice, length-slice}
+use lib.Seq.{length-slice}
 use Rattle.definition.specs.Basics.{Bytes}
-use Rattle.definition.specs.Utf8.{encode, Scalars, encode-all, Legal, Boundary, sequence-at}
-use Rattle.definition.specs.Position.{Weight, one-each, is-continuation, weight-at, count-chars, col-by}
+use Rattle.definition.specs.Utf8.{encode, Scalars, encode-all, Boundary}
+use Rattle.definition.specs.Position.{Weight, one-each, is-continuation, weight-at, count-chars, col-by, col-of}
 use Rattle.definition.specs.declared.State.{State}
 use Rattle.lemmas.proofs.Lists.{slice-then-drop}
 use Rattle.text.specs.Chars.{CharAt}
@@ -74,3 +74,8 @@ pub each-one : (cs : List ℕ) → sum-of one-each cs ≡ length cs
 unfolding sum-of
 each-one [] = refl
 each-one (c ∷ cs) = omega (arith, each-one cs)
+
+-- The column of a boundary of a legal text is the line start's column plus the number of characters since.
+pub column-count : {s : Bytes} (st : State) {i : ℕ} (b : Boundary s (st .bol)) (d : Boundary s i) (h : st .bol ≤ i)
+    → col-of s st i ≡ st .column + length (between-is-legal b d h .chars)
+column-count st b d h = column-sum one-each st b d h ∙ ap (λ (n : ℕ). st .column + n) (each-one (between-is-legal b d h .chars))

@@ -5,7 +5,7 @@ use mathlib.Core.Bool.{true, false}
 use mathlib.Core.List.{List, [], _∷_}
 use lib.ListN.{length}
 use Rattle.definition.specs.Basics.{Bytes}
-use Rattle.definition.specs.Position.{Weight, is-continuation, col-of, pos-of}
+use Rattle.definition.specs.Position.{Weight, one-each, is-continuation, col-by, pos-of}
 use Rattle.definition.specs.declared.State.{State}
 use Rattle.positions.specs.declared.Cache.{Cache}
 use Rattle.positions.specs.declared.Located.{Located}
@@ -14,25 +14,25 @@ use Rattle.positions.specs.declared.Located.{Located}
 unfoldable pub unit : ℕ → ℕ
 unit b = elim (is-continuation b) [ true ↦ 0 | false ↦ 1 ]
 
--- the cache holds an offset of the state's line, and its column
-pub record Known (s : Bytes) (st : State) (known : Cache) : Type 0 where
+-- the cache holds an offset of the state's line, and its column by a weight
+pub record Known (w : Weight) (s : Bytes) (st : State) (known : Cache) : Type 0 where
   pub after : st .bol ≤ known .off
-  pub column : known .col ≡ col-of s st (known .off)
+  pub column : known .col ≡ col-by w s st (known .off)
 
 -- what may be asked: the column of an offset of the state's line, in a text that is not too long
-pub record Asked (s : Bytes) (st : State) (known : Cache) (i : ℕ) : Type 0 where
+pub record Asked (w : Weight) (s : Bytes) (st : State) (known : Cache) (i : ℕ) : Type 0 where
   pub short : length s ≤ 1048576
   pub margin : st .column ≤ 1000000
-  pub cached : Known s st known
+  pub cached : Known w s st known
   pub from : st .bol ≤ i
   pub to : i ≤ length s
 
--- an offset and its column
-abbrev pub column-at : Bytes → State → ℕ → Cache
-column-at s st i = record { off = i; col = col-of s st i }
+-- an offset and its column by a weight
+abbrev pub column-at : Weight → Bytes → State → ℕ → Cache
+column-at w s st i = record { off = i; col = col-by w s st i }
 
 abbrev pub located : Bytes → State → ℕ → Located
-located s st i = record { pos = pos-of s st i; known = column-at s st i }
+located s st i = record { pos = pos-of s st i; known = column-at one-each s st i }
 
 -- the weights of some characters together
 unfoldable pub sum-of : Weight → List ℕ → ℕ

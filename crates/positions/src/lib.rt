@@ -1,6 +1,8 @@
 // Columns and positions. A column goes on from the last one that is known, so that a line of n bytes costs n bytes of
 // counting over all of its items. Proved: the count is the definition's, and the column of an offset is the
-// definition's whatever is cached, so that the cache handed back is right again. Assumed: nothing.
+// definition's from any cache that is right, and the cache handed back is right again. The laws of the count and of
+// columns are stated for any weight per character; the functions count 1 for each.
+// Assumed: nothing but what each function's `requires` says.
 ghost use mathlib.Core.Path.{_≡_};
 ghost use Prim.Native.Nat.{_-_, _≤_};
 ghost use lib.ListN.{length};
@@ -51,8 +53,8 @@ pub fn count_chars(text: &[u8], i: usize, j: usize) -> usize
 // The source's `col_of`, by value: the offset asked for, with its column. It counts on from the known offset, or from
 // the line start where the known offset is past the one asked for.
 pub fn col_of(text: &[u8], st: State, known: Cache, i: u32) -> Cache
-    requires { ⌜ Asked (now text) st known i ⌝ }
-    ensures { λ r. ⌜ r ≡ column-at (now (text .entry)) st i ⌝ }
+    requires { ⌜ Asked one-each (now text) st known i ⌝ }
+    ensures { λ r. ⌜ r ≡ column-at one-each (now (text .entry)) st i ⌝ }
 {
     let to = i as usize;
     if known.off <= i {
@@ -73,7 +75,7 @@ pub fn col_of(text: &[u8], st: State, known: Cache, i: u32) -> Cache
 
 // The source's `pos_of`.
 pub fn pos_of(text: &[u8], st: State, known: Cache, i: u32) -> Located
-    requires { ⌜ Asked (now text) st known i ⌝ }
+    requires { ⌜ Asked one-each (now text) st known i ⌝ }
     ensures { λ r. ⌜ r ≡ located (now (text .entry)) st i ⌝ }
 {
     let here = col_of(text, st, known, i);

@@ -17,7 +17,7 @@ cast-t11 c = omega (arith, count-fits _ _ _ _ (omega arith) (c .count-chars .ens
 
 returns : tie.Need-returns
 returns c =
-    from-known _ _ _ _ _ (c .before .before .before .before .before .before .pre) (c .before .before .before .if1 .taken)
+    from-known _ _ _ _ _ _ (c .before .before .before .before .before .before .pre) (c .before .before .before .if1 .taken)
     (c .before .count-chars .ensures)
 
 add-t12 : tie.Need-add-t12
@@ -33,7 +33,7 @@ cast-t13 : tie.Need-cast-t13
 cast-t13 c = omega (arith, count-fits _ _ _ _ (omega arith) (c .count-chars2 .ensures))
 
 returns-2 : tie.Need-returns-2
-returns-2 c = from-start _ _ _ _ (c .before .count-chars2 .ensures)
+returns-2 c = from-start _ _ _ _ _ (c .before .count-chars2 .ensures)
 
 add-t14 : tie.Need-add-t14
 add-t14 c = omega (arith, column-fits _ (c .before .before .before .before .before .before .pre) (returns-2 c))

@@ -1,5 +1,4 @@
 -- A byte below 80 and one above BF count 1, those between 0.
-use borrow.Author.Needs.{needs}
 use Rattle.positions.proofs.Counting.{below-tails, in-tails, above-tails}
 use Rattle.positions.proofs.unit.Statement.{statement}
 use Rattle.positions.proofs.unit.Tie as tie
