@@ -44,16 +44,16 @@ fn in_table(table: &[bool; 128], c: u32) -> bool
     false
 }
 
-pub fn is_op_char(table: &[bool; 128], c: u32) -> bool
-    requires { ⌜ now table ≡ ascii-table op-char-cps ⌝ }
+pub fn is_op_char(ops: &[bool; 128], c: u32) -> bool
+    requires { ⌜ now ops ≡ ascii-table op-char-cps ⌝ }
     ensures { λ r. ⌜ r ≡ is-op-char c ⌝ }
 {
-    in_table(table, c)
+    in_table(ops, c)
 }
 
-pub fn is_symbolchar(table: &[bool; 128], c: u32) -> bool
-    requires { ⌜ now table ≡ ascii-table symbolchar-cps ⌝ }
+pub fn is_symbolchar(symbols: &[bool; 128], c: u32) -> bool
+    requires { ⌜ now symbols ≡ ascii-table symbolchar-cps ⌝ }
     ensures { λ r. ⌜ r ≡ is-symbolchar c ⌝ }
 {
-    in_table(table, c)
+    in_table(symbols, c)
 }

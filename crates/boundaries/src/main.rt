@@ -35,21 +35,37 @@ fn show(bytes: &[u8]) {
 // Each end of each range of the table, and what stands beside it.
 fn ranges() {
     show(b"");
+    show(b"\x00");
+    show(b"\x7F");
     show(b"\xC0\x80");
     show(b"\xC1\xBF");
     show(b"\xC2\x80");
     show(b"\xDF\xBF");
+    show(b"\xC2\x7F");
+    show(b"\xC2\xC0");
     show(b"\xE0\x80\x80");
     show(b"\xE0\x9F\xBF");
     show(b"\xE0\xA0\x80");
+    show(b"\xE0\xBF\xBF");
+    show(b"\xE1\x80\x80");
+    show(b"\xEC\xBF\xBF");
+    show(b"\xED\x80\x80");
     show(b"\xED\x9F\xBF");
     show(b"\xED\xA0\x80");
     show(b"\xED\xBF\xBF");
     show(b"\xEE\x80\x80");
     show(b"\xEF\xBF\xBF");
+    show(b"\xE1\x80\x7F");
+    show(b"\xE1\x80\xC0");
     show(b"\xF0\x80\x80\x80");
     show(b"\xF0\x8F\xBF\xBF");
     show(b"\xF0\x90\x80\x80");
+    show(b"\xF0\xBF\xBF\xBF");
+    show(b"\xF1\x80\x80\x80");
+    show(b"\xF3\xBF\xBF\xBF");
+    show(b"\xF1\x80\x80\x7F");
+    show(b"\xF1\x80\x80\xC0");
+    show(b"\xF4\x80\x80\x80");
     show(b"\xF4\x8F\xBF\xBF");
     show(b"\xF4\x90\x80\x80");
     show(b"\xF5\x80\x80\x80");
@@ -58,8 +74,17 @@ fn ranges() {
     show(b"\xBF");
 }
 
-// The legal ones of more than one byte, cut short.
+// Sequences of more than one byte, cut short: those that no legal one begins with, and the legal ones.
 fn cut_short() {
+    show(b"\xC0");
+    show(b"\xC1");
+    show(b"\xE0\x80");
+    show(b"\xED\xA0");
+    show(b"\xF0\x80");
+    show(b"\xF0\x80\x80");
+    show(b"\xF4\x90");
+    show(b"\xF4\x90\x80");
+    show(b"\xF5");
     show(b"\xC2");
     show(b"\xDF");
     show(b"\xE0\xA0");

@@ -98,7 +98,7 @@ fn ranges_right(file: &[u8]) -> bool
     true
 }
 
-// A refusal number, or 0 for a file that the tests below can read.
+// A refusal number, or 0 for a file whose classes can be read (member.rt).
 pub fn class_check(file: &[u8]) -> u32
     ensures { λ r. ⌜ r ≡ class-check (now (file .entry)) ⌝ }
 {

@@ -1,7 +1,7 @@
 -- `blob` and `use_lang`. The contents are the text's own bytes, from byte `from` on: `acc` holds them in chunks.
-use Prim.Native.Nat.{ℕ, _+_}
+use Prim.Native.Nat.{ℕ}
 use mathlib.Core.Bool.{Bool, true, false, _||_}
-use mathlib.Core.List.{List, [], _∷_}
+use mathlib.Core.List.{[]}
 use lib.Dec.{ltb, leb, eqb}
 use lib.ListN.{length}
 use Rattle.definition.specs.Basics.{Bytes, Turn, again, done, loop, fuel, ch, if_then_else_}
@@ -16,7 +16,6 @@ use Rattle.definition.specs.Item.{Step, blob-tok, lex-error}
 use Rattle.definition.specs.Comment.{run-end, after}
 use Rattle.definition.specs.declared.Pos.{Pos}
 use Rattle.definition.specs.declared.State.{State}
-use Rattle.definition.specs.declared.Match.{Match}
 use Rattle.definition.specs.declared.Match.the-variants.{To, Nothing}
 
 -- what a blob's header says: its name, the position after it, and its start

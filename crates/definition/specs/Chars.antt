@@ -1,11 +1,11 @@
 -- The tests on characters, in the source's order. c is a code point: past the end no test passes (`char-has`, `byte-has`).
 -- An ASCII character is never looked up in a class.
 use Prim.Native.Nat.{ℕ, zero, suc}
-use mathlib.Core.Bool.{Bool, true, false, _&&_, _||_}
+use mathlib.Core.Bool.{Bool, true, false, _||_}
 use mathlib.Core.List.{List, [], _∷_, map}
 use lib.Dec.{ltb, eqb, leb}
 use lib.ListN.{getD}
-use Rattle.definition.specs.Basics.{Bytes, ch, codes, mem-cp, between, if_then_else_}
+use Rattle.definition.specs.Basics.{Bytes, ch, codes, mem-cp, between}
 use Rattle.definition.specs.ClassFile.{is-lu, is-lt, is-lo, is-lm, is-zs, is-sm}
 use Rattle.definition.specs.Lowercase.{is-ll}
 

@@ -3,7 +3,7 @@
 -- level. So a step gives one piece, and a later step goes on behind it.
 use Prim.Native.Nat.{ℕ, _+_}
 use mathlib.Core.Bool.{Bool, true, false, not, _&&_, _||_}
-use mathlib.Core.List.{List, [], _∷_, _++_}
+use mathlib.Core.List.{_++_}
 use lib.Dec.{ltb, leb, eqb}
 use lib.ListN.{length}
 use Rattle.definition.specs.Basics.{Bytes, Turn, again, done, loop, fuel, ch}
@@ -17,7 +17,6 @@ use Rattle.definition.specs.Trim.{maybe-trim-lines}
 use Rattle.definition.specs.State.{advance, new-line, one-more-comment, deeper, close-comment}
 use Rattle.definition.specs.Item.{Step, add-comment}
 use Rattle.definition.specs.declared.State.{State}
-use Rattle.definition.specs.declared.Match.{Match}
 use Rattle.definition.specs.declared.Match.the-variants.{To, Nothing}
 
 -- `run_end`: "The end of the run of characters starting at [i] that are not EOF and do not satisfy [stop]"

@@ -1,8 +1,6 @@
 -- Characters behind a backslash: `unescape` and `string_of_cp`.
 use Prim.Native.Nat.{ℕ, _+_}
-use mathlib.Core.Bool.{Bool, true, false, _||_}
-use mathlib.Core.List.{List}
-use lib.Dec.{eqb}
+use mathlib.Core.Bool.{Bool, true, false}
 use Rattle.definition.specs.Basics.{Bytes, ch, between, if_then_else_}
 use Rattle.definition.specs.Utf8.{sequence-at, encode}
 use Rattle.definition.specs.Text.{with-char, byte-is, lexeme}

@@ -1,6 +1,5 @@
 -- Items: what one step gives, and the sixteen numbers that a record holds.
-use Prim.Native.Nat.{ℕ, _+_}
-use Prim.Native.String.{String}
+use Prim.Native.Nat.{ℕ}
 use mathlib.Core.Bool.{Bool, true, false}
 use mathlib.Core.List.{List, [], _∷_, _++_}
 use lib.ListN.{length}

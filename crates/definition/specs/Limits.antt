@@ -4,7 +4,7 @@ use Prim.Native.Nat.{ℕ, _+_, _*_, _/_, _%_}
 use Prim.Native.String.{String}
 use mathlib.Core.Bool.{Bool, true, false}
 use mathlib.Core.List.{List, [], _∷_, _++_, map}
-use lib.ListN.{length, take, drop, set, replicate}
+use lib.ListN.{length, take, set, replicate}
 use Rattle.definition.specs.Basics.{Bytes}
 use Rattle.definition.specs.ClassFile.{Range, header, bad-class-length, class-check}
 use Rattle.definition.specs.Lowercase.{flat}
@@ -12,9 +12,8 @@ use Rattle.definition.specs.Tables.{cps}
 use Rattle.definition.specs.State.{state-words, no-pos, started, sound, start}
 use Rattle.definition.specs.Item.{mark}
 use Rattle.definition.specs.Run.{Outcome, text-too-long, name-too-long, refusal, run}
-use Rattle.definition.specs.Cases.{no-ranges, token, eof, a-comment}
+use Rattle.definition.specs.Cases.{no-ranges, eof, a-comment}
 use Rattle.definition.specs.Listed.{said, listed}
-use Rattle.definition.specs.declared.Pos.{Pos}
 use Rattle.definition.specs.declared.State.{State}
 
 abbrev pub Row : Type 0

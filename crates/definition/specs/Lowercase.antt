@@ -1,6 +1,5 @@
 -- The built-in lowercase letters: the source's `ll_ranges`, as its text spells it, and its `decode`.
 use Prim.Native.Nat.{ℕ, _+_, _-_, _*_}
-use Prim.Native.Char.{Char}
 use Prim.Native.String.{String}
 use mathlib.Core.Bool.{Bool, true, false, _||_}
 use mathlib.Core.List.{List, [], _∷_, reverse}

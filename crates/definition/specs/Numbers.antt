@@ -1,7 +1,7 @@
 -- Numbers as texts: `clean_number`, `U.int_of_string` and `show`.
-use Prim.Native.Nat.{ℕ, zero, suc, _+_, _-_, _*_, _/_, _%_}
+use Prim.Native.Nat.{ℕ, suc, _+_, _-_, _*_, _/_, _%_}
 use mathlib.Core.Bool.{Bool, true, false, _||_}
-use mathlib.Core.List.{List, [], _∷_, _++_}
+use mathlib.Core.List.{[], _∷_}
 use lib.Dec.{ltb, eqb}
 use Rattle.definition.specs.Basics.{Bytes, ch, codes, mem-cp, between, if_then_else_, Turn, again, done, loop}
 

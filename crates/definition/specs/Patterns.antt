@@ -2,14 +2,14 @@
 -- No matcher stands in them: that the matchers find their longest parts is what is to be proved.
 use Prim.Native.Nat.{ℕ}
 use Prim.Native.String.{String}
-use mathlib.Core.Bool.{Bool, not, _&&_, _||_}
+use mathlib.Core.Bool.{not, _&&_}
 use mathlib.Core.List.{List, [], _∷_, map}
 use lib.Dec.{eqb}
 use lib.ListN.{getD}
 use Rattle.definition.specs.Basics.{Bytes, ch, codes, mem-cp, between}
 use Rattle.definition.specs.Chars.{is-digit, is-hex, is-op-char, is-symbolchar, is-ident-start, is-constructor-start, is-ident-char, is-anywhite, is-newline-char, is-uoperator}
 use Rattle.definition.specs.Tables.{Entry, early-literals, kw-op-rules, op-tokens, mixfix-rules}
-use Rattle.definition.specs.Regex.{Re, eps, chr, seq, alt, many, never, some, opt, char, word, any-word}
+use Rattle.definition.specs.Regex.{Re, chr, seq, alt, many, never, some, opt, word, any-word}
 
 -- ---- parts of patterns
 

@@ -1,6 +1,6 @@
 -- Demand 3, over a run: which positions are reading positions, and that the choice at each is right and moves on.
 -- s is the text, name the file's name, f the class file, g the state that the run is given.
-use Prim.Native.Nat.{ℕ, _<_}
+use Prim.Native.Nat.{_<_}
 use mathlib.Core.Path.{_≡_}
 use lib.ListN.{length}
 use Rattle.definition.specs.Basics.{Bytes, again, done}

@@ -1,8 +1,8 @@
 -- `run`, the third of document 01's operations: refusals, stops, and both lent buffers after it.
 -- s is the text, name the file's name, f the class file; rs is the records' buffer, ps the payload's.
-use Prim.Native.Nat.{ℕ, suc, _+_, _-_, _*_}
+use Prim.Native.Nat.{ℕ, _+_, _-_, _*_}
 use mathlib.Core.Bool.{Bool, true, false}
-use mathlib.Core.List.{List, [], _∷_, _++_}
+use mathlib.Core.List.{List, _++_}
 use lib.Dec.{ltb, eqb}
 use lib.ListN.{length, take, drop}
 use Rattle.definition.specs.Basics.{Bytes, Turn, again, done, loop, if_then_else_}

@@ -1,10 +1,10 @@
 -- The lexing state: what it is after some reading, when a saved one is sound, and `start`.
-use Prim.Native.Nat.{ℕ, suc, _+_, _-_}
-use mathlib.Core.Bool.{Bool, true, false, not, _&&_, _||_}
+use Prim.Native.Nat.{ℕ, _+_, _-_}
+use mathlib.Core.Bool.{Bool, true, false, not, _&&_}
 use mathlib.Core.List.{List, [], _∷_}
 use lib.Dec.{ltb, leb, eqb}
 use lib.ListN.{length, getD}
-use Rattle.definition.specs.Basics.{Bytes, between, if_then_else_}
+use Rattle.definition.specs.Basics.{Bytes, if_then_else_}
 use Rattle.definition.specs.Position.{is-continuation}
 use Rattle.definition.specs.declared.Pos.{Pos}
 use Rattle.definition.specs.declared.State.{State}

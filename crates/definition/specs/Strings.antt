@@ -1,7 +1,7 @@
 -- `string_lit`.
 use Prim.Native.Nat.{ℕ, _+_}
 use mathlib.Core.Bool.{Bool, true, false, _||_}
-use mathlib.Core.List.{List, [], _∷_, _++_}
+use mathlib.Core.List.{[], _++_}
 use lib.Dec.{ltb, leb, eqb}
 use lib.ListN.{length}
 use Rattle.definition.specs.Basics.{Bytes, Turn, again, done, loop, fuel, ch}
@@ -17,7 +17,6 @@ use Rattle.definition.specs.Comment.{run-end}
 use Rattle.definition.specs.declared.Pos.{Pos}
 use Rattle.definition.specs.declared.State.{State}
 use Rattle.definition.specs.declared.Extra.the-variants.{NoExtra}
-use Rattle.definition.specs.declared.Match.{Match}
 use Rattle.definition.specs.declared.Match.the-variants.{To, Nothing}
 
 unfoldable pub string-stop : ℕ → Bool

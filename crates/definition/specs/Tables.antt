@@ -5,7 +5,7 @@ use mathlib.Core.Bool.{true, false}
 use mathlib.Core.List.{List, [], _∷_}
 use mathlib.Core.Option.{Option, none, some}
 use Rattle.definition.specs.Basics.{Bytes, codes, same}
-use Rattle.definition.specs.Utf8.{encode, encode-all}
+use Rattle.definition.specs.Utf8.{encode-all}
 
 -- `cps`: "The UTF-8 bytes of a literal; literals are matched byte by byte"
 unfoldable pub cps : String → Bytes

@@ -1,7 +1,6 @@
 -- Reading a text: the source's `get`, `byte`, `next` and `lexeme`, and document 01's first offset where no legal sequence starts.
 use Prim.Native.Nat.{ℕ, _+_}
 use mathlib.Core.Bool.{Bool, true, false}
-use mathlib.Core.List.{List, []}
 use lib.Dec.{ltb, eqb}
 use lib.ListN.{length, getD}
 use lib.Seq.{slice}

@@ -1,13 +1,13 @@
 -- `next_token`: what is done with each choice. A step of the lexer is one item, with the state after it.
 -- s is the text, name the file's name, f the class file.
-use Prim.Native.Nat.{ℕ, suc, _+_, _-_}
+use Prim.Native.Nat.{ℕ, _+_, _-_}
 use Prim.Native.String.{String}
 use mathlib.Core.Bool.{Bool, true, false}
 use mathlib.Core.List.{List, [], _∷_, _++_}
-use mathlib.Core.Option.{Option, none, some}
+use mathlib.Core.Option.{none, some}
 use lib.Dec.{ltb, leb, eqb}
 use lib.ListN.{length, getD, take}
-use Rattle.definition.specs.Basics.{Bytes, Turn, again, done, loop, fuel, ch, same, if_then_else_}
+use Rattle.definition.specs.Basics.{Bytes, Turn, again, done, loop, fuel, ch, same}
 use Rattle.definition.specs.Text.{lexeme}
 use Rattle.definition.specs.Tables.{Entry, cps, find, keywords, constructors, op-tokens, uoperators, early-literals, kw-op-rules, mixfix-rules}
 use Rattle.definition.specs.Position.{pos-of, cur-pos}
@@ -22,9 +22,7 @@ use Rattle.definition.specs.Comment.{comment, line-comment}
 use Rattle.definition.specs.Strings.{string-lit}
 use Rattle.definition.specs.Blob.{Header, blob, use-lang}
 use Rattle.definition.specs.declared.Choice.{Choice}
-use Rattle.definition.specs.declared.Pos.{Pos}
 use Rattle.definition.specs.declared.State.{State}
-use Rattle.definition.specs.declared.Extra.{Extra}
 use Rattle.definition.specs.declared.Extra.the-variants.{NoExtra, CharLit}
 
 -- a call of `next_token`: it calls itself behind what it skips, or it gives an item

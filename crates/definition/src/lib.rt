@@ -1,6 +1,6 @@
 // The types that all layers share, and the methods of the lexing state. What they mean stands in specs/, which is the
 // definition of the whole lexer. Proved: each method is the definition's change of the state, and (in proofs/) the
-// definition computes document 01's cases. Assumed: nothing.
+// definition computes document 01's cases. Assumed: nothing but what each method's `requires` says.
 ghost use mathlib.Core.Path.{_≡_};
 ghost use Prim.Native.Nat.{_<_, _≤_};
 ghost use Rattle.definition.specs.State.{advance, new-line, deeper, open-comment, close-level, close-last};

@@ -1,8 +1,8 @@
 -- By cases on the test or on the match that a definition goes by, keeping what the case says, and tests decided by what is known of
 -- their numbers. Rests on the tests' own laws, `borrow.Author.Tests`.
 use Prim.Native.Nat.{ℕ, _≤_, _<_}
-use mathlib.Core.Path.{_≡_, refl}
-use mathlib.Core.Bool.{Bool, true, false, _&&_, _||_, false≢true}
+use mathlib.Core.Path.{_≡_, refl, sym, ap, _∙_}
+use mathlib.Core.Bool.{Bool, true, false, not, _&&_, _||_, false≢true}
 use lib.Dec.{ltb, leb}
 use borrow.Author.Tests.{lt-ltb, le-ltb, le-leb, lt-leb, eq-eqb, ne-eqb, ltb-true, ltb-false, leb-true, leb-false}
 use Rattle.definition.specs.Basics.{if_then_else_}
@@ -76,3 +76,11 @@ both-true false b p q = absurd (false≢true p)
 pub either : {X : Type 0} (a b : Bool) → (a ≡ true → X) → (b ≡ true → X) → a || b ≡ true → X
 either true b f g e = f refl
 either false b f g e = g e
+
+-- below is not at most, the other way round
+pub ltb-leb : (a b : ℕ) → ltb a b ≡ not (leb b a)
+ltb-leb a b = go (ltb a b) refl
+  where
+    go : (t : Bool) → ltb a b ≡ t → ltb a b ≡ not (leb b a)
+    go true e = e ∙ ap not (sym (lt-leb b a (ltb-true a b e)))
+    go false e = e ∙ ap not (sym (le-leb b a (ltb-false a b e)))

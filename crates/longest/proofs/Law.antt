@@ -2,12 +2,11 @@
 -- They hold for any class file: nothing is asked of it. Rests on the files beside this one, which prove them: a language over offsets
 -- (Language), right answers (Ends), first characters (Starts), the shapes of patterns (Shapes, Literals, Backticks, Families), numbers
 -- (Continues, Integers, Floats, BadNumbers, Numbers), the choice among ends (Best), and the 50 places (Places, Choosing).
-use Prim.Native.Nat.{ℕ, _≤_, _<_}
+use Prim.Native.Nat.{ℕ, _≤_}
 use mathlib.Core.Path.{_≡_}
 use mathlib.Core.Logic.{_⊎_}
 use lib.ListN.{length}
 use Rattle.definition.specs.Basics.{Bytes}
-use Rattle.definition.specs.Utf8.{Legal, Boundary}
 use Rattle.definition.specs.Matchers.{max-list, any-integer-ends, match-bad-number}
 use Rattle.definition.specs.Select.{select}
 use Rattle.definition.specs.Patterns.{patterns, pattern}
@@ -19,10 +18,11 @@ use Rattle.longest.proofs.Places.{Reaches}
 use Rattle.longest.proofs.Numbers.{numbers}
 use Rattle.longest.proofs.Choosing.{answer, answer-right, choice-longest}
 
--- At every boundary before the end of a legal text `select` takes the longest part that any place permits, and of those the one of the
--- earliest place; and it takes none exactly where no place permits a byte.
-pub select-longest : (s f : Bytes) → Legal s → (i : ℕ) → Boundary s i → i < length s → Longest s f i (select s f i)
-select-longest s f l i b h = choice-longest s f i (numbers s f i) (b .within)
+-- At every offset of a text `select` takes the longest part that any place permits, and of those the one of the earliest place; and it
+-- takes none exactly where no place permits a part of one byte or more. It is so for any bytes and any class file, and so at every
+-- boundary of a legal text, where a run asks it.
+pub select-longest : (s f : Bytes) (i : ℕ) → i ≤ length s → Longest s f i (select s f i)
+select-longest s f i h = choice-longest s f i (numbers s f i) h
 
 module _ (s f : Bytes) (i : ℕ) (h : i ≤ length s) where
   -- Each place but 27 finds the longest part that its pattern permits, or that it permits none.

@@ -1,18 +1,16 @@
 -- What a test of a byte says, a literal byte by byte, and a range cut at a comment turn by turn. Rests on the definition, on the laws of
 -- loops and on those of `no-comment`'s turns.
-use Prim.Native.Nat.{ℕ, suc, _+_, _≤_, _<_}
-use mathlib.Core.Path.{_≡_, refl, sym, ap, _∙_}
+use Prim.Native.Nat.{ℕ, _+_, _≤_, _<_}
+use mathlib.Core.Path.{_≡_, refl, _∙_}
 use mathlib.Core.Bool.{Bool, true, false, _&&_, _||_}
-use mathlib.Core.List.{List, [], _∷_}
-use native.Mathlib.Omega.{arith}
 use native.Mathlib.Numerals.{add-one}
-use lib.Dec.{ltb, leb, eqb}
+use lib.Dec.{leb, eqb}
 use lib.ListN.{length, getD, drop, drop-of-length-le}
 use lib.Seq.{drop-cons}
 use borrow.Author.Tests.{le-leb, lt-leb, eq-eqb, ne-eqb}
 use Rattle.definition.specs.Basics.{Bytes, ch, between}
 use Rattle.definition.specs.Text.{byte-has, byte-is}
-use Rattle.definition.specs.Matchers.{later, match-lit, no-comment-turn, no-comment}
+use Rattle.definition.specs.Matchers.{later, match-lit, no-comment}
 use Rattle.definition.specs.declared.Match.{Match}
 use Rattle.definition.specs.declared.Match.the-variants.{To, Nothing}
 use Rattle.lemmas.proofs.Cases.{tests, both}

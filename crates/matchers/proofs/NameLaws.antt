@@ -1,7 +1,7 @@
 -- Line ends, and a character with a run behind it, by what stands at the offset. Rests on the laws of one character.
 use Prim.Native.Nat.{ℕ, _+_}
-use mathlib.Core.Path.{_≡_, refl, sym, ap, subst, _∙_}
-use mathlib.Core.Bool.{Bool, true, false, _&&_, _||_, false≢true}
+use mathlib.Core.Path.{_≡_, sym, ap, _∙_}
+use mathlib.Core.Bool.{Bool, true, false, _&&_, false≢true}
 use mathlib.Core.List.{[], _∷_}
 use types.Run.{OneOf}
 use denote.Enum.Declared.{tagOf}
@@ -18,7 +18,7 @@ use Rattle.definition.proofs.Sequence.{the-type}
 use Rattle.definition.specs.declared.Match.{Match}
 use Rattle.definition.specs.declared.Match.the-variants.{To, Nothing}
 use Rattle.lemmas.proofs.Cases.{by-outcome}
-use Rattle.text.proofs.Reading.{No-char, with-none}
+use Rattle.text.proofs.Reading.{with-none}
 use Rattle.matchers.proofs.RunLaws.{one-yes, one-no, one-other, no-char}
 
 -- ---- a character that passes a test, and a run over another

@@ -1,7 +1,7 @@
 -- Escapes and names in backticks, by what stands at the offset. Rests on the laws of one character and of the loop of names in backticks.
 use Prim.Native.Nat.{ℕ, _+_, _≤_, _<_}
 use mathlib.Core.Path.{_≡_, refl, sym, ap, subst, _∙_}
-use mathlib.Core.Bool.{Bool, true, false, not, _&&_, _||_, false≢true}
+use mathlib.Core.Bool.{Bool, true, false, not, _&&_, false≢true}
 use mathlib.Core.List.{List, [], _∷_}
 use mathlib.Core.Logic.{⊎-elim, inl, inr}
 use native.Mathlib.Omega.{arith}
@@ -18,13 +18,12 @@ use Rattle.definition.specs.Matchers.{only, one, match-escape, match-char, back
 use Rattle.definition.specs.declared.Sequence.{Sequence}
 use Rattle.definition.specs.declared.Sequence.the-variants.{Char}
 use Rattle.definition.proofs.Sequence.{the-type}
-use Rattle.definition.specs.declared.Octet.{Octet}
 use Rattle.definition.specs.declared.Octet.the-variants.{Byte, Past as No-byte}
 use Rattle.definition.specs.declared.Match.{Match}
 use Rattle.definition.specs.declared.Match.the-variants.{To, Nothing}
 use Rattle.lemmas.proofs.Cases.{by-test, by-order, both}
 use Rattle.lemmas.proofs.Loops.{says, Leads}
-use Rattle.text.proofs.Reading.{byte-within, byte-end, No-char, with-none}
+use Rattle.text.proofs.Reading.{byte-within, byte-end, with-none}
 use Rattle.progress.proofs.Characters.{ascii-at}
 use Rattle.progress.proofs.Walks.{Onward, byte-passes}
 use Rattle.progress.proofs.Ends.{Ends}

@@ -16,7 +16,7 @@ use Rattle.definition.specs.Basics.{Bytes, ch, between}
 use Rattle.definition.specs.Utf8.{encode, sequence-at}
 use Rattle.definition.specs.Text.{with-char, byte-has, star}
 use Rattle.definition.specs.Chars.{ascii-limit, ascii-table, in-table, op-char-cps, symbolchar-cps, is-op-char, is-symbolchar}
-use Rattle.definition.specs.Matchers.{_then_, only, one, plus}
+use Rattle.definition.specs.Matchers.{only, one, plus}
 use Rattle.definition.specs.declared.Sequence.{Sequence}
 use Rattle.definition.proofs.Sequence.{the-type}
 use Rattle.definition.specs.declared.Sequence.the-variants.{Char, Bad, End}
@@ -28,7 +28,7 @@ use Rattle.text.proofs.Character.{char-read, char-within}
 use Rattle.text.proofs.Star.{star-on, star-stop, star-none, star-from}
 use Rattle.progress.proofs.Characters.{ascii-at}
 use Rattle.progress.proofs.Matches.{Small, small-is, small-or, small-between}
-use Rattle.matchers.proofs.ByteLaws.{has-within, has-past, has-inside}
+use Rattle.matchers.proofs.ByteLaws.{has-within, has-inside}
 
 -- What is neither of the code's other two answers is no character.
 pub no-char : (q : Sequence) → OneOf (1 ∷ 2 ∷ []) (tagOf the-type q) → No-char q

@@ -1,7 +1,7 @@
 -- What a character says of the bytes under it: how many they are, that they lie within the text, which of them begin a character,
 -- and that ASCII is one byte. Rests on the laws of UTF-8 (crate `text`).
 use Prim.Native.Nat.{ℕ, _+_, _≤_, _<_}
-use mathlib.Core.Path.{_≡_, ap, _∙_}
+use mathlib.Core.Path.{_≡_, _∙_}
 use native.Mathlib.Omega.{arith}
 use lib.Dec.{leb}
 use lib.ListN.{length, getD}

@@ -8,7 +8,7 @@ use mathlib.Core.Bool.{Bool, true, false, not, _||_, false≢true}
 use mathlib.Core.List.{List, [], _∷_}
 use native.Mathlib.Omega.{arith}
 use lib.Dec.{ltb, leb, eqb}
-use Rattle.definition.specs.Basics.{Bytes, ch, codes, mem-cp, if_then_else_}
+use Rattle.definition.specs.Basics.{Bytes, ch, codes, mem-cp}
 use Rattle.definition.specs.Text.{char-has}
 use Rattle.definition.specs.Chars.{ascii-limit, is-digit, is-anywhite, is-op-char, is-symbolchar, is-uoperator}
 use Rattle.definition.specs.Tables.{Entry, cps, early-literals, kw-op-rules, op-tokens, mixfix-rules}

@@ -1,27 +1,27 @@
 -- `run-items` has fuel enough: each item leaves less to read, in bytes and in levels of a comment, or ends the reading. And
 -- a run that isn't refused begins and stays where nothing here runs out of fuel: on a character of a clean text, with a
 -- level open in a comment. Rests on the laws of tokens and comments.
-use Prim.Native.Nat.{ℕ, _+_, _-_, _*_, _≤_, _<_}
+use Prim.Native.Nat.{ℕ, _-_, _*_, _≤_, _<_}
 use mathlib.Core.Path.{_≡_, refl, sym, ap, subst, _∙_}
-use mathlib.Core.Bool.{Bool, true, false, not, _&&_, false≢true}
+use mathlib.Core.Bool.{true, false, not, false≢true}
 use mathlib.Core.List.{List}
 use native.Mathlib.Omega.{arith}
 use lib.Dec.{ltb, leb, eqb}
 use lib.ListN.{length, getD}
-use borrow.Author.Tests.{ltb-true, leb-true, le-leb, eqb-true, eqb-false, not-true}
-use Rattle.definition.specs.Basics.{Bytes, Turn, loop, if_then_else_}
+use borrow.Author.Tests.{ltb-true, le-leb, eqb-true, eqb-false, not-true}
+use Rattle.definition.specs.Basics.{Bytes, Turn, loop}
 use Rattle.definition.specs.Text.{first-bad, star}
 use Rattle.definition.specs.Position.{is-continuation}
 use Rattle.definition.specs.ClassFile.{class-check}
-use Rattle.definition.specs.State.{at-character, place-sound, counts-sound, depth-sound, comment-sound, sound}
+use Rattle.definition.specs.State.{at-character, sound}
+use Rattle.state.proofs.Soundness.{sound-means}
 use Rattle.definition.specs.Item.{Step, record-size}
-use Rattle.definition.specs.Comment.{comment}
 use Rattle.definition.specs.Token.{step}
 use Rattle.definition.specs.Run.{Outcome, Writing, stopped, run-turn, most-items, run-items, text-too-long, name-too-long, refusal}
 use Rattle.definition.specs.Reading.{Reached, given, skipped, gave, carried}
 use Rattle.definition.specs.declared.State.{State}
 use Rattle.lemmas.proofs.Loops.{says, Leads, Falls, Any, loop-same, loop-unroll-by}
-use Rattle.lemmas.proofs.Cases.{by-test, by-lt, by-if, both, both-true}
+use Rattle.lemmas.proofs.Cases.{by-test, by-lt, by-if, both-true}
 use Rattle.progress.proofs.Walks.{Walk, here, walk-to, walk-within, star-walks, Clean, clean-walk}
 use Rattle.progress.proofs.Moves.{awake, awake-small, left, Opened, reads-opened, Gives, Moves}
 use Rattle.progress.proofs.Comments.{comment-gives}
@@ -106,15 +106,9 @@ at-character-clean s i c = by-if (λ t. t ≡ true → Clean s i) (ltb i (length
 
 -- a state that is sound stands on a character, and has a level open if it is in a comment
 sound-ready : (s : Bytes) (st : State) → Clean s 0 → sound s st ≡ true → Ready s st
-unfolding sound place-sound depth-sound
 sound-ready s st c t =
-    let p = both (place-sound s st) (counts-sound st && (depth-sound st && comment-sound st)) t in
-    let q = both (at-character s (st .offset)) (at-character s (st .bol) && leb (st .bol) (st .offset)) (p .0) in
-    let d = both (depth-sound st) (comment-sound st) (both (counts-sound st) (depth-sound st && comment-sound st) (p .1) .1) in
-    record {
-      clean = at-character-clean s (st .offset) c (q .0);
-      opened = λ m. by-if (λ t. t ≡ true → 1 ≤ st .depth) (eqb (st .mode) 1) (λ _ e. leb-true 1 (st .depth) e) (λ n _. absurd (eqb-false (st .mode) 1 n m)) (d .0);
-    }
+    let m = sound-means s st t in
+    record { clean = at-character-clean s (st .offset) c (m .offset); opened = m .opened }
 
 module _ (s name f : Bytes) where
   -- a run that isn't refused is ready

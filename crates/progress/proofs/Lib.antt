@@ -1,5 +1,6 @@
 pub mod Characters
 pub mod Walks
+pub mod Boundaries
 pub mod Ends
 pub mod Matches
 pub mod Words

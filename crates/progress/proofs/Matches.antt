@@ -8,7 +8,7 @@ use mathlib.Core.List.{List, [], _∷_}
 use native.Mathlib.Omega.{arith}
 use lib.Dec.{ltb, leb, eqb}
 use borrow.Author.Tests.{ltb-true, leb-true, eqb-true}
-use Rattle.definition.specs.Basics.{Bytes, Turn, fuel, ch, codes, mem-cp, between, if_then_else_}
+use Rattle.definition.specs.Basics.{Bytes, Turn, fuel, ch, codes, mem-cp, between}
 use Rattle.definition.specs.Utf8.{sequence-at}
 use Rattle.definition.specs.Text.{with-char, char-has, byte-has, byte-is, star}
 use Rattle.definition.specs.Chars.{is-digit, is-hex, is-ident-start, is-constructor-start, is-ident-char, is-newline-char}

@@ -2,17 +2,16 @@
 -- another `out` changes nothing, and that it is what its first turn says. Rests on the laws of loops, walks and matchers.
 use Prim.Native.Nat.{ℕ, suc, _+_, _-_, _/_, _≤_, _<_}
 use mathlib.Core.Path.{_≡_, refl, sym, subst, _∙_}
-use mathlib.Core.Bool.{Bool, true, false, _&&_}
+use mathlib.Core.Bool.{Bool, true, _&&_}
 use mathlib.Core.List.{[]}
 use native.Mathlib.Omega.{arith}
 use lib.ListN.{length}
-use Rattle.definition.specs.Basics.{Bytes, Turn, again, done, loop, fuel, ch}
+use Rattle.definition.specs.Basics.{Bytes, Turn, loop, fuel, ch}
 use Rattle.definition.specs.Utf8.{sequence-at}
-use Rattle.definition.specs.Text.{with-char, byte-is, star-turn, star}
+use Rattle.definition.specs.Text.{byte-is, star-turn, star}
 use Rattle.definition.specs.Matchers.{only, backtick-turn, match-backtick-ident, no-comment-turn, no-comment}
 use Rattle.definition.specs.Numbers.{show-turn, show}
-use Rattle.definition.specs.declared.Sequence.{Sequence}
-use Rattle.definition.specs.declared.Sequence.the-variants.{Char, Bad, End}
+use Rattle.definition.specs.declared.Sequence.the-variants.{Char}
 use Rattle.definition.specs.declared.Match.{Match}
 use Rattle.definition.specs.declared.Match.the-variants.{Nothing}
 use Rattle.lemmas.proofs.Loops.{says, Leads, leads-map, Falls, Any, loop-same, loop-unroll, loop-unroll-by}

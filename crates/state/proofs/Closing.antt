@@ -1,6 +1,6 @@
 -- `close-comment` by its two cases. Rests on nothing but the definition.
 use Prim.Native.Nat.{_≤_, _<_}
-use mathlib.Core.Path.{_≡_, sym, _∙_}
+use mathlib.Core.Path.{_≡_, _∙_}
 use borrow.Author.Tests.{lt-ltb, le-ltb}
 use Rattle.definition.specs.State.{close-level, close-last, close-comment}
 use Rattle.definition.specs.declared.State.{State}

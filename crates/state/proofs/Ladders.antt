@@ -1,11 +1,12 @@
 -- A ladder of tests against a definition that joins them by `&&`, and the byte test of `at-character`. Rests on nothing but the
 -- definition.
 use Prim.Native.Nat.{ℕ, _≤_, _<_}
-use mathlib.Core.Path.{_≡_, refl, sym, ap, _∙_}
-use mathlib.Core.Bool.{Bool, true, false, not, _&&_}
-use lib.Dec.{ltb, leb}
+use mathlib.Core.Path.{_≡_}
+use mathlib.Core.Bool.{Bool, true, false, _&&_}
+use lib.Dec.{ltb}
 use lib.ListN.{length, getD}
-use borrow.Author.Tests.{lt-ltb, le-leb, lt-leb, ltb-true, ltb-false}
+use borrow.Author.Tests.{lt-ltb, le-leb}
+use Rattle.lemmas.proofs.Cases.{ltb-leb}
 use Rattle.definition.specs.Basics.{Bytes}
 use Rattle.definition.specs.Position.{is-continuation}
 use Rattle.definition.specs.State.{at-character}
@@ -16,14 +17,6 @@ holds b e t = rw (← e, t)
 
 pub fails : {a r : Bool} (b : Bool) → r ≡ a → r ≡ false → false ≡ (a && b)
 fails b e t = rw (← e, t)
-
--- below is not at most, the other way round
-ltb-leb : (a b : ℕ) → ltb a b ≡ not (leb b a)
-ltb-leb a b = go (ltb a b) refl
-  where
-    go : (t : Bool) → ltb a b ≡ t → ltb a b ≡ not (leb b a)
-    go true e = e ∙ ap not (sym (lt-leb b a (ltb-true a b e)))
-    go false e = e ∙ ap not (sym (le-leb b a (ltb-false a b e)))
 
 -- a byte of 80 or more starts a character if it is above BF
 pub above-tails : (s : Bytes) (i : ℕ) → i < length s → 0x80 ≤ getD s i 0 → ltb 0xBF (getD s i 0) ≡ at-character s i

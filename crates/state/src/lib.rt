@@ -1,5 +1,5 @@
 // `start`, whether a saved state is sound, and the state after a comment's level was closed. Proved: all are the
-// definition's, `start` and `sound` for every number. Assumed: nothing.
+// definition's, `start` and `sound` for every number. Assumed: nothing but what each function's `requires` says.
 ghost use mathlib.Core.Path.{_≡_};
 ghost use Prim.Native.Nat.{_<_};
 ghost use Rattle.definition.specs.State.{close-comment, at-character, place-sound, counts-sound, depth-sound, comment-sound, sound, start, started};

@@ -1,6 +1,5 @@
 -- `byte_either` is the definition's test of a byte for one of two: an equation for each outcome.
-use mathlib.Core.Path.{sym, _∙_}
-use borrow.Author.Tests.{eq-eqb, ne-eqb}
+use mathlib.Core.Path.{sym}
 use Rattle.matchers.proofs.ByteLaws.{has-past, either-first, either-second}
 use borrow.Author.Needs.{needs}
 use Rattle.matchers.proofs.bytes.byte_either.Statement.{statement}

@@ -1,5 +1,4 @@
 -- `some_run` answers by one test.
-use mathlib.Core.Path.{sym}
 use borrow.Author.Tests.{lt-ltb, le-ltb}
 use Rattle.matchers.proofs.runs.some_run.Statement.{statement}
 use Rattle.matchers.proofs.runs.some_run.Tie as tie
