@@ -1,17 +1,14 @@
 -- Parts of the definition's matchers that have a function of their own. The proofs of the matchers show that these are the definition's
 -- own words.
 use Prim.Native.Nat.{ℕ, _+_}
-use mathlib.Core.Bool.{Bool, not, _&&_, _||_}
+use mathlib.Core.Bool.{Bool, not, _&&_}
 use lib.Dec.{eqb}
 use Rattle.definition.specs.Basics.{Bytes, ch}
-use Rattle.definition.specs.Text.{byte-has, byte-is, star}
-use Rattle.definition.specs.Chars.{is-digit, is-hex, is-newline-char}
-use Rattle.definition.specs.Matchers.{_then_, later, only, one, match-lit, match-integer, match-xinteger, skip-sign, is-e}
+use Rattle.definition.specs.Text.{byte-has, byte-is}
+use Rattle.definition.specs.Chars.{is-hex, is-newline-char}
+use Rattle.definition.specs.Matchers.{only, one}
 use Rattle.definition.specs.declared.Match.{Match}
 use Rattle.definition.specs.declared.Match.the-variants.{To, Nothing}
-use Rattle.matchers.specs.declared.numbers.IntegerEnds.{IntegerEnds}
-
--- ---- quotes
 
 -- two hexadecimal digits at i
 unfoldable pub hex-pair : Bytes → ℕ → Bool
@@ -24,37 +21,3 @@ in-backticks c = not (eqb c (ch "`")) && not (is-newline-char c)
 -- such a character, or one behind a backtick
 unfoldable pub backtick-part : Bytes → ℕ → Match
 backtick-part s j = elim (one in-backticks s j) [ To k ↦ To k | Nothing ↦ only (byte-is (ch "`") s j) (one in-backticks s (j + 1)) ]
-
--- ---- numbers
-
--- both ends of an integer
-abbrev pub integer-ends : Bytes → ℕ → IntegerEnds
-integer-ends s i = record { plain = match-integer s i; based = match-xinteger s i }
-
--- u or U and a word, behind an integer that ends at e
-unfoldable pub usuffix : Bytes → Bytes → ℕ → Match
-usuffix s word e = only (byte-has (λ c. eqb c (ch "u") || eqb c (ch "U")) s e) (match-lit s word (e + 1))
-
--- a point, behind digits that end at j
-unfoldable pub point : Bytes → ℕ → Match
-point s j = only (byte-is (ch ".") s j) (To (j + 1))
-
--- a point and digits
-unfoldable pub fraction : Bytes → ℕ → Match
-fraction s j = only (byte-is (ch ".") s j) (To (star is-digit s (j + 1)))
-
--- an exponent
-unfoldable pub exponent : Bytes → ℕ → Match
-exponent s k = only (byte-has is-e s k) (match-integer s (skip-sign s (k + 1)))
-
--- an exponent, or a point, digits and an exponent
-unfoldable pub exponent-behind : Bytes → ℕ → Match
-exponent-behind s j = later (exponent s j) (fraction s j then exponent s)
-
--- an exponent of one digit
-unfoldable pub short-exponent : Bytes → ℕ → Match
-short-exponent s k = only (byte-has is-e s k) (only (byte-has is-digit s (skip-sign s (k + 1))) (To (skip-sign s (k + 1) + 1)))
-
--- the shortest float with an exponent, behind digits
-unfoldable pub short-float : Bytes → Match → Match
-short-float s digits = later (digits then short-exponent s) (digits then fraction s then short-exponent s)

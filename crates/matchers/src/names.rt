@@ -1,11 +1,11 @@
 // Line ends, identifiers and constructors.
-use crate::bytes::byte_is;
-use crate::runs::star_ident_char;
 use chars::is_constructor_start;
 use chars::is_ident_start;
 use chars::is_newline_char;
 use definition::Match;
 use definition::Sequence;
+use scan::bytes::byte_is;
+use scan::runs::star_ident_char;
 use text::sequence_at;
 ghost use mathlib.Core.Path.{_≡_};
 ghost use Rattle.definition.specs.ClassFile.{class-check};

@@ -1,11 +1,11 @@
 // Escapes, character literals, and names in backticks.
-use crate::bytes::byte_is;
-use crate::bytes::byte_twice;
-use crate::runs::hex_at;
 use chars::is_newline_char;
 use definition::Match;
 use definition::Octet;
 use definition::Sequence;
+use scan::bytes::byte_is;
+use scan::bytes::byte_twice;
+use scan::runs::hex_at;
 use text::byte;
 use text::sequence_at;
 ghost use mathlib.Core.Path.{_≡_};

@@ -1,7 +1,7 @@
 -- `one_in_backticks` is the definition's `one` over its test.
 use mathlib.Core.Path.{sym, _∙_}
 use Rattle.text.proofs.Character.{char-read, char-within}
-use Rattle.matchers.proofs.RunLaws.{one-yes, one-no, one-other}
+use Rattle.scan.proofs.RunLaws.{one-yes, one-no, one-other}
 use Rattle.matchers.proofs.QuoteLaws.{ticks-tick, ticks-newline, ticks-yes}
 use borrow.Author.Needs.{needs}
 use native.Mathlib.Omega.{arith}

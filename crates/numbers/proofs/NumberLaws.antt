@@ -1,0 +1,182 @@
+-- The definition's numbers from the end of their digits on: suffixes, fractions, exponents, and numbers that go wrong. Rests on the laws of
+-- matchers put together.
+use Prim.Native.Nat.{ℕ, _+_}
+use mathlib.Core.Path.{_≡_, refl, sym, ap, ap₂, _∙_}
+use mathlib.Core.Bool.{Bool, true, false}
+use mathlib.Core.List.{[], _∷_}
+use Rattle.definition.specs.Basics.{Bytes, ch}
+use Rattle.definition.specs.Text.{byte-has, byte-is, star}
+use Rattle.definition.specs.Chars.{is-digit, is-ident-char}
+use Rattle.definition.specs.Tables.{cps}
+use Rattle.definition.specs.Matchers.{
+  _then_,
+  later,
+  max-list,
+  only,
+  match-lit,
+  plus,
+  match-integer,
+  match-xinteger,
+  any-integer-ends,
+  match-int-suffix,
+  match-int-usuffix,
+  match-floatp,
+  skip-sign,
+  is-e,
+  match-floate,
+  match-bad-number,
+}
+use Rattle.definition.specs.declared.Match.{Match}
+use Rattle.definition.specs.declared.Match.the-variants.{To, Nothing}
+use Rattle.numbers.specs.declared.IntegerEnds.{IntegerEnds}
+use Rattle.numbers.specs.Parts.{integer-ends, usuffix, point, fraction, exponent, exponent-behind, short-exponent, short-float}
+use Rattle.scan.proofs.ByteLaws.{later-nothing}
+
+-- ---- matchers put together, from what their parts found
+
+-- A matcher behind an end that is known by an equation.
+pub then-of : (f : ℕ → Match) {m n r : Match} → r ≡ (m then f) → m ≡ n → r ≡ (n then f)
+then-of f p q = p ∙ ap (λ (k : Match). k then f) q
+
+-- The later of two ends that are.
+pub later-of : {a b x y r : Match} → r ≡ later a b → a ≡ x → b ≡ y → r ≡ later x y
+later-of p q h = p ∙ ap₂ later q h
+
+-- ---- suffixes
+
+-- Both ends of an integer, from each.
+pub ends-are : (s : Bytes) (i : ℕ) {a b : Match} → a ≡ match-integer s i → b ≡ match-xinteger s i
+    → _≡_ {A = IntegerEnds} (record { plain = a; based = b }) (integer-ends s i)
+ends-are s i p q = ap₂ {C = IntegerEnds} (λ a b. record { plain = a; based = b }) p q
+
+-- What is looked for behind both ends, where they are known by an equation.
+pub ends-of : (s : Bytes) (i : ℕ) (f : ℕ → Match) {ends : IntegerEnds} {r : Match} → r ≡ later (ends .plain then f) (ends .based then f)
+    → ends ≡ integer-ends s i → r ≡ later (match-integer s i then f) (match-xinteger s i then f)
+ends-of s i f p q = p ∙ ap (λ (e : IntegerEnds). later (e .plain then f) (e .based then f)) q
+
+-- The later of two ends is the latest of their list.
+two-ends : (a b : Match) → later a b ≡ max-list (a ∷ b ∷ [])
+unfolding max-list
+two-ends a b = ap (later a) (sym (later-nothing b))
+
+module _ (s : Bytes) (i : ℕ) (word : Bytes) where
+  -- An integer with a suffix is a suffix behind either end.
+  pub suffix-is : later (match-integer s i then match-lit s word) (match-xinteger s i then match-lit s word) ≡ match-int-suffix s i word
+  unfolding match-int-suffix any-integer-ends
+  suffix-is = two-ends (match-integer s i then match-lit s word) (match-xinteger s i then match-lit s word)
+
+  -- So is one with a u before it.
+  pub usuffix-is : later (match-integer s i then usuffix s word) (match-xinteger s i then usuffix s word) ≡ match-int-usuffix s i word
+  unfolding match-int-usuffix any-integer-ends usuffix
+  usuffix-is = two-ends (match-integer s i then usuffix s word) (match-xinteger s i then usuffix s word)
+
+-- ---- fractions and exponents
+
+-- Digits behind a point are a fraction.
+point-digits : (s : Bytes) (m : Match) → (m then point s then λ j. To (star is-digit s j)) ≡ (m then fraction s)
+unfolding point fraction
+point-digits s (To j) = go (byte-is (ch ".") s j)
+  where
+    go : (t : Bool) → (only t (To (j + 1)) then λ j. To (star is-digit s j)) ≡ only t (To (star is-digit s (j + 1)))
+    go true = refl
+    go false = refl
+point-digits s Nothing = refl
+
+-- Without a point there is no fraction.
+pub fraction-none : (s : Bytes) (m : Match) → (m then point s) ≡ Nothing → Nothing ≡ (m then fraction s)
+fraction-none s m e = ap (λ (n : Match). n then λ j. To (star is-digit s j)) (sym e) ∙ point-digits s m
+
+-- With one it goes to the end of the digits behind it.
+pub fraction-some : (s : Bytes) (m : Match) {j e : ℕ} → (m then point s) ≡ To j → e ≡ star is-digit s j → To e ≡ (m then fraction s)
+fraction-some s m p q = ap To q ∙ ap (λ (n : Match). n then λ j. To (star is-digit s j)) (sym p) ∙ point-digits s m
+
+module _ (s : Bytes) (k : ℕ) where
+  -- Without its letter there is no exponent, whatever its digits.
+  pub exponent-no : byte-has is-e s k ≡ false → exponent s k ≡ Nothing
+  unfolding exponent
+  exponent-no e = rw e
+
+  -- With it the exponent is the digits behind the sign.
+  pub exponent-yes : {x : ℕ} → byte-has is-e s k ≡ true → x ≡ skip-sign s (k + 1) → match-integer s x ≡ exponent s k
+  unfolding exponent
+  exponent-yes e q = rw e (ap (match-integer s) q)
+
+  -- The same of the shortest: no letter,
+  pub short-no : byte-has is-e s k ≡ false → short-exponent s k ≡ Nothing
+  unfolding short-exponent
+  short-no e = rw e
+
+  -- no digit behind it,
+  pub short-none : {x : ℕ} → byte-has is-e s k ≡ true → x ≡ skip-sign s (k + 1) → byte-has is-digit s x ≡ false → short-exponent s k ≡ Nothing
+  unfolding short-exponent
+  short-none {x} e q d = rw (e, ← q, d)
+
+  -- or one digit.
+  pub short-yes : {x : ℕ} → byte-has is-e s k ≡ true → x ≡ skip-sign s (k + 1) → byte-has is-digit s x ≡ true → short-exponent s k ≡ To (x + 1)
+  unfolding short-exponent
+  short-yes {x} e q d = rw (e, ← q, d)
+
+-- One matcher behind another goes over to the end of the whole.
+then-then : (m : Match) (f g : ℕ → Match) → (m then f then g) ≡ (m then λ j. (f j then g))
+then-then (To j) f g = refl
+then-then Nothing f g = refl
+
+-- An exponent stands behind digits, or behind digits and a fraction.
+pub float-is : (s : Bytes) (m : Match) → later (m then exponent s) (m then fraction s then exponent s) ≡ (m then exponent-behind s)
+unfolding exponent-behind later
+float-is s (To j) = refl
+float-is s Nothing = refl
+
+-- What is tried behind a fraction is tried behind its point and digits.
+behind-fraction : (s : Bytes) (j : ℕ) (f : ℕ → Match) → (fraction s j then f) ≡ only (byte-is (ch ".") s j) (f (star is-digit s (j + 1)))
+unfolding fraction
+behind-fraction s j f = go (byte-is (ch ".") s j)
+  where
+    go : (t : Bool) → (only t (To (star is-digit s (j + 1))) then f) ≡ only t (f (star is-digit s (j + 1)))
+    go true = refl
+    go false = refl
+
+-- `match-floatp` is a fraction behind the digits.
+pub floatp-is : (s : Bytes) (i : ℕ) → (match-integer s i then fraction s) ≡ match-floatp s i
+unfolding match-floatp fraction
+floatp-is s i = refl
+
+-- `match-floate` is an exponent behind them.
+pub floate-is : (s : Bytes) (i : ℕ) → (match-integer s i then exponent-behind s) ≡ match-floate s i
+unfolding match-floate exponent-behind exponent
+floate-is s i = go (match-integer s i)
+  where
+    go : (m : Match) → (m then exponent-behind s) ≡ (m then λ j. later (exponent s j) (only (byte-is (ch ".") s j) (exponent s (star is-digit s (j + 1)))))
+    go (To j) = ap (later (exponent s j)) (behind-fraction s j (exponent s))
+    go Nothing = refl
+
+-- ---- numbers that go wrong
+
+-- The shortest float with an exponent, in the definition's words.
+short-is : (s : Bytes) (m : Match)
+    → short-float s m ≡ later (m then short-exponent s) (m then point s then λ k. short-exponent s (star is-digit s k))
+unfolding short-float
+short-is s m = ap (later (m then short-exponent s)) (ap (λ (n : Match). n then short-exponent s) (sym (point-digits s m)) ∙ then-then (m then point s) (λ j. To (star is-digit s j)) (short-exponent s))
+
+-- The latest of seven ends.
+pub seven-ends : (a b c d e f g : Match) → later a (later b (later c (later d (later e (later f g))))) ≡ max-list (a ∷ b ∷ c ∷ d ∷ e ∷ f ∷ g ∷ [])
+unfolding max-list
+seven-ends a b c d e f g = ap (λ (m : Match). later a (later b (later c (later d (later e (later f m)))))) (sym (later-nothing g))
+
+-- the identifier characters behind an end
+abbrev pub wrong : Bytes → Bytes → Match → Match
+wrong s file m = m then plus (is-ident-char file) s
+
+-- A number that goes wrong is one of seven with identifier characters behind it.
+pub bad-number-is : (s file : Bytes) (i : ℕ)
+    → later (wrong s file (match-integer s i)) (later (wrong s file (match-xinteger s i)) (later (wrong s file (match-integer s i then fraction s))
+    (later (wrong s file (match-integer s i then exponent-behind s)) (later (wrong s file (match-xinteger s i then match-lit s (cps "LF")))
+    (later (wrong s file (match-integer s i then point s)) (wrong s file (short-float s (match-integer s i))))))))
+    ≡ match-bad-number s file i
+unfolding match-bad-number point short-exponent
+bad-number-is s file i =
+    let w : Match → Match = wrong s file in
+    rw (floatp-is s i, floate-is s i, short-is s (match-integer s i))
+    (seven-ends (w (match-integer s i)) (w (match-xinteger s i)) (w (match-floatp s i)) (w (match-floate s i))
+    (w (match-xinteger s i then match-lit s (cps "LF"))) (w (match-integer s i then point s))
+    (w (later (match-integer s i then short-exponent s) (match-integer s i then point s then λ k. short-exponent s (star is-digit s k)))))

@@ -1,0 +1,272 @@
+// Integers with their suffixes, floats, and numbers that go wrong. The digits are read once: what may follow them is
+// looked for behind their end.
+// Proved: the answer of each public function is what the definition gives, at any offset of any bytes.
+// Assumed: nothing but what each function's `requires` says: a class file that `class_check` accepts where a class is
+// asked.
+use definition::Match;
+use scan::bytes::byte_either;
+use scan::bytes::byte_is;
+use scan::bytes::later;
+use scan::bytes::lit_after;
+use scan::bytes::match_lit;
+use scan::runs::digit_at;
+use scan::runs::plus_binary;
+use scan::runs::plus_digit;
+use scan::runs::plus_hex;
+use scan::runs::plus_ident_char;
+use scan::runs::plus_octal;
+use scan::runs::star_digit;
+ghost use mathlib.Core.Path.{_≡_};
+ghost use Rattle.definition.specs.ClassFile.{class-check};
+ghost use Rattle.definition.specs.Chars.{is-ident-char};
+ghost use Rattle.definition.specs.Matchers.{_then_, later, match-lit, plus, match-integer, match-xinteger, match-int-suffix, match-int-usuffix, match-floatp, skip-sign, match-floate, match-real, match-bad-number};
+ghost use Rattle.numbers.specs.Parts.{integer-ends, usuffix, point, fraction, exponent, short-exponent, exponent-behind, short-float};
+
+// The end of an integer's digits, and that of the digits behind 0x, 0o or 0b: the source's `any_integer_ends`.
+pub struct IntegerEnds {
+    pub plain: Match,
+    pub based: Match,
+}
+
+pub fn match_integer(text: &[u8], i: usize) -> Match
+    ensures { λ r. ⌜ r ≡ match-integer (now (text .entry)) i ⌝ }
+{
+    plus_digit(text, i)
+}
+
+pub fn match_xinteger(text: &[u8], i: usize) -> Match
+    ensures { λ r. ⌜ r ≡ match-xinteger (now (text .entry)) i ⌝ }
+{
+    if !byte_is(text, i, b'0') {
+        return Match::Nothing;
+    }
+    if byte_either(text, i + 1, b'x', b'X') {
+        return plus_hex(text, i + 2);
+    }
+    if byte_either(text, i + 1, b'o', b'O') {
+        return plus_octal(text, i + 2);
+    }
+    if byte_either(text, i + 1, b'b', b'B') {
+        return plus_binary(text, i + 2);
+    }
+    Match::Nothing
+}
+
+pub fn any_integer_ends(text: &[u8], i: usize) -> IntegerEnds
+    ensures { λ r. ⌜ r ≡ integer-ends (now (text .entry)) i ⌝ }
+{
+    IntegerEnds {
+        plain: match_integer(text, i),
+        based: match_xinteger(text, i),
+    }
+}
+
+// The end of a suffix behind either end of an integer.
+pub fn suffix_after(text: &[u8], ends: IntegerEnds, suffix: &[u8]) -> Match
+    ensures { λ r. ⌜ r ≡ later (ends .plain then match-lit (now (text .entry)) (now (suffix .entry))) (ends .based then match-lit (now (text .entry)) (now (suffix .entry))) ⌝ }
+{
+    let plain = ends.plain;
+    let based = ends.based;
+    later(
+        lit_after(text, plain, suffix),
+        lit_after(text, based, suffix),
+    )
+}
+
+pub fn match_int_suffix(text: &[u8], i: usize, suffix: &[u8]) -> Match
+    ensures { λ r. ⌜ r ≡ match-int-suffix (now (text .entry)) i (now (suffix .entry)) ⌝ }
+{
+    suffix_after(text, any_integer_ends(text, i), suffix)
+}
+
+// The end of a u or U and a suffix behind an end.
+fn u_lit_after(text: &[u8], m: Match, suffix: &[u8]) -> Match
+    ensures { λ r. ⌜ r ≡ (m then usuffix (now (text .entry)) (now (suffix .entry))) ⌝ }
+{
+    let Match::To(e) = m else {
+        return Match::Nothing;
+    };
+    if byte_either(text, e, b'u', b'U') {
+        return match_lit(text, suffix, e + 1);
+    }
+    Match::Nothing
+}
+
+// The end of a u or U and a suffix behind either end of an integer.
+pub fn usuffix_after(text: &[u8], ends: IntegerEnds, suffix: &[u8]) -> Match
+    ensures { λ r. ⌜ r ≡ later (ends .plain then usuffix (now (text .entry)) (now (suffix .entry))) (ends .based then usuffix (now (text .entry)) (now (suffix .entry))) ⌝ }
+{
+    let plain = ends.plain;
+    let based = ends.based;
+    later(
+        u_lit_after(text, plain, suffix),
+        u_lit_after(text, based, suffix),
+    )
+}
+
+pub fn match_int_usuffix(text: &[u8], i: usize, suffix: &[u8]) -> Match
+    ensures { λ r. ⌜ r ≡ match-int-usuffix (now (text .entry)) i (now (suffix .entry)) ⌝ }
+{
+    usuffix_after(text, any_integer_ends(text, i), suffix)
+}
+
+// ---- floats
+
+// The end of a point behind an integer's digits: the source's `floatp_min`.
+fn point_after(text: &[u8], digits: Match) -> Match
+    ensures { λ r. ⌜ r ≡ (digits then point (now (text .entry))) ⌝ }
+{
+    let Match::To(j) = digits else {
+        return Match::Nothing;
+    };
+    if byte_is(text, j, b'.') {
+        return Match::To(j + 1);
+    }
+    Match::Nothing
+}
+
+// The end of a point and digits behind an integer's digits.
+pub fn floatp_after(text: &[u8], digits: Match) -> Match
+    ensures { λ r. ⌜ r ≡ (digits then fraction (now (text .entry))) ⌝ }
+{
+    let Match::To(j) = point_after(text, digits) else {
+        return Match::Nothing;
+    };
+    Match::To(star_digit(text, j))
+}
+
+pub fn match_floatp(text: &[u8], i: usize) -> Match
+    ensures { λ r. ⌜ r ≡ match-floatp (now (text .entry)) i ⌝ }
+{
+    floatp_after(text, match_integer(text, i))
+}
+
+// The offset behind an optional sign.
+pub fn skip_sign(text: &[u8], k: usize) -> usize
+    ensures { λ r. ⌜ r ≡ skip-sign (now (text .entry)) k ⌝ }
+{
+    if byte_either(text, k, b'+', b'-') {
+        return k + 1;
+    }
+    k
+}
+
+// The end of an exponent: e or E, an optional sign, and digits.
+fn exponent(text: &[u8], k: usize) -> Match
+    ensures { λ r. ⌜ r ≡ exponent (now (text .entry)) k ⌝ }
+{
+    if byte_either(text, k, b'e', b'E') {
+        return match_integer(text, skip_sign(text, k + 1));
+    }
+    Match::Nothing
+}
+
+fn exponent_after(text: &[u8], m: Match) -> Match
+    ensures { λ r. ⌜ r ≡ (m then exponent (now (text .entry))) ⌝ }
+{
+    let Match::To(k) = m else {
+        return Match::Nothing;
+    };
+    exponent(text, k)
+}
+
+// The end of an exponent behind an integer's digits, or behind a point and digits there.
+pub fn floate_after(text: &[u8], digits: Match) -> Match
+    ensures { λ r. ⌜ r ≡ (digits then exponent-behind (now (text .entry))) ⌝ }
+{
+    let without_dot = exponent_after(text, digits);
+    let with_dot = exponent_after(text, floatp_after(text, digits));
+    later(without_dot, with_dot)
+}
+
+pub fn match_floate(text: &[u8], i: usize) -> Match
+    ensures { λ r. ⌜ r ≡ match-floate (now (text .entry)) i ⌝ }
+{
+    floate_after(text, match_integer(text, i))
+}
+
+pub fn match_real(text: &[u8], i: usize) -> Match
+    ensures { λ r. ⌜ r ≡ match-real (now (text .entry)) i ⌝ }
+{
+    let Match::To(j) = match_floatp(text, i) else {
+        return Match::Nothing;
+    };
+    if byte_is(text, j, b'R') {
+        return Match::To(j + 1);
+    }
+    Match::Nothing
+}
+
+// ---- numbers that go on as an identifier
+
+// The end of the shortest exponent: e or E, an optional sign, and one digit.
+fn short_exponent(text: &[u8], k: usize) -> Match
+    ensures { λ r. ⌜ r ≡ short-exponent (now (text .entry)) k ⌝ }
+{
+    if !byte_either(text, k, b'e', b'E') {
+        return Match::Nothing;
+    }
+    let digit = skip_sign(text, k + 1);
+    if digit_at(text, digit) {
+        return Match::To(digit + 1);
+    }
+    Match::Nothing
+}
+
+fn short_exponent_after(text: &[u8], m: Match) -> Match
+    ensures { λ r. ⌜ r ≡ (m then short-exponent (now (text .entry))) ⌝ }
+{
+    let Match::To(k) = m else {
+        return Match::Nothing;
+    };
+    short_exponent(text, k)
+}
+
+// The end of the shortest float with an exponent, behind an integer's digits: the source's `floate_min`.
+fn short_float(text: &[u8], digits: Match) -> Match
+    ensures { λ r. ⌜ r ≡ short-float (now (text .entry)) digits ⌝ }
+{
+    let without_dot = short_exponent_after(text, digits);
+    let with_dot = short_exponent_after(text, floatp_after(text, digits));
+    later(without_dot, with_dot)
+}
+
+// The end of the identifier characters behind a number's end.
+fn ident_chars_after(text: &[u8], file: &[u8], m: Match) -> Match
+    requires { ⌜ class-check (now file) ≡ 0 ⌝ }
+    ensures { λ r. ⌜ r ≡ (m then plus (is-ident-char (now (file .entry))) (now (text .entry))) ⌝ }
+{
+    let Match::To(e) = m else {
+        return Match::Nothing;
+    };
+    plus_ident_char(text, file, e)
+}
+
+// The end of a number with identifier characters behind it. "Since digits are ident chars, the shortest float matches are
+// the relevant ones", beside the longest.
+pub fn match_bad_number(text: &[u8], file: &[u8], i: usize) -> Match
+    requires { ⌜ class-check (now file) ≡ 0 ⌝ }
+    ensures { λ r. ⌜ r ≡ match-bad-number (now (text .entry)) (now (file .entry)) i ⌝ }
+{
+    let integer = match_integer(text, i);
+    let based = match_xinteger(text, i);
+    let mut end = ident_chars_after(text, file, short_float(text, integer));
+    end = later(
+        ident_chars_after(text, file, point_after(text, integer)),
+        end,
+    );
+    end = later(
+        ident_chars_after(text, file, lit_after(text, based, b"LF")),
+        end,
+    );
+    end = later(
+        ident_chars_after(text, file, floate_after(text, integer)),
+        end,
+    );
+    end = later(
+        ident_chars_after(text, file, floatp_after(text, integer)),
+        end,
+    );
+    end = later(ident_chars_after(text, file, based), end);
+    later(ident_chars_after(text, file, integer), end)
+}
