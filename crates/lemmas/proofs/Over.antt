@@ -3,10 +3,11 @@
 use Prim.Native.Nat.{ℕ, zero, suc, _+_, _≤_, _<_}
 use mathlib.Core.Path.{_≡_, refl, sym, ap, _∙_}
 use mathlib.Core.List.{List, [], _∷_, _++_, append-assoc}
-use native.Mathlib.Nat.{le-of-suc-le-suc, not-suc-le-zero}
+use native.Mathlib.Nat.{le-of-suc-le-suc, not-suc-le-zero, zero-add}
 use native.Mathlib.Omega.{arith}
 use lib.ListN.{length, take, drop, set, length-append, length-drop}
-use Rattle.lemmas.specs.Over.{over}
+use lib.Seq.{sets, sets-eq}
+use Rattle.lemmas.specs.Over.{over, Wrote}
 
 -- A buffer keeps its length.
 pub length-over : (vs l : List ℕ) → length vs ≤ length l → length (over vs l) ≡ length l
@@ -18,3 +19,11 @@ pub write-back : (l r : List ℕ) (at x : ℕ) → at < length l → set (take (
 write-back [] r at x h = absurd (not-suc-le-zero h)
 write-back (y ∷ l) r zero x h = refl
 write-back (y ∷ l) r (suc at) x h = ap (λ (m : List ℕ). y ∷ m) (write-back l r at x (le-of-suc-le-suc h))
+
+-- Elements that are stored one by one from the front on.
+pub stored : (w vs l : List ℕ) → w ≡ vs → length w ≤ length l → Wrote w l (sets l 0 vs) (length vs)
+unfolding over
+stored w vs l e h = record {
+  all = ap length (sym e);
+  bytes = rw e (sets-eq vs l 0 (rw (← e, zero-add) h) ∙ ap (λ (k : ℕ). vs ++ drop k l) (zero-add (length vs)));
+}

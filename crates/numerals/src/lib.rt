@@ -66,7 +66,7 @@ pub fn clean_number(lexeme: &[u8]) -> Part
 }
 
 // The value of a digit of any base.
-fn digit_value(b: u8) -> u32
+pub fn digit_value(b: u8) -> u32
     ensures { λ r. ⌜ r ≡ digit-value b ⌝ }
 {
     if b < b'0' {

@@ -2,8 +2,6 @@
 -- measure is what is left.
 use borrow.Author.Needs.{needs}
 use native.Mathlib.Omega.{arith}
-use Prim.Native.Nat.{_+_}
-use mathlib.Core.Path.{_∙_}
 use lib.ListN.{length-set}
 use Rattle.numerals.proofs.Digits.{Showing, showing-starts, showing-goes-on, showing-room, showing-ends, showing-first, showing-length}
 use Rattle.numerals.proofs.show_into.Statement.{statement}
@@ -51,7 +49,7 @@ slice-write-out-2 : tie.Need-slice-write-out-2 Inv-loop μ-loop
 slice-write-out-2 c = omega (arith, showing-first (c .before .loop .inv) (c .loop-test .left), showing-length (c .before .loop .inv))
 
 same-length : tie.Need-same-length Inv-loop μ-loop
-same-length c = length-set (c .before .loop .out) 0 (48 + c .before .loop .left) ∙ showing-length (c .before .loop .inv)
+same-length c = simp length-set (showing-length (c .before .loop .inv))
 
 returns : tie.Need-returns Inv-loop μ-loop
 returns c =
