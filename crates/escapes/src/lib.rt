@@ -91,13 +91,13 @@ pub fn is_surrogate(c: u32) -> bool
 pub fn encode_length(c: u32) -> usize
     ensures { λ r. ⌜ r ≡ length (encode c) ⌝ }
 {
-    if c < 0x80 {
+    if c <= 0x7F {
         return 1;
     }
-    if c < 0x800 {
+    if c <= 0x7FF {
         return 2;
     }
-    if c < 0x10000 {
+    if c <= 0xFFFF {
         return 3;
     }
     4
