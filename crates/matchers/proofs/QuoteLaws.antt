@@ -1,9 +1,8 @@
 -- Escapes and names in backticks, by what stands at the offset. Rests on the laws of one character and of the loop of names in backticks.
 use Prim.Native.Nat.{ℕ, _+_, _≤_, _<_}
 use mathlib.Core.Path.{_≡_, refl, sym, ap, subst, _∙_}
-use mathlib.Core.Bool.{Bool, true, false, not, _&&_, false≢true}
+use mathlib.Core.Bool.{Bool, true, false, not, _&&_}
 use mathlib.Core.List.{List, [], _∷_}
-use mathlib.Core.Logic.{⊎-elim, inl, inr}
 use native.Mathlib.Omega.{arith}
 use types.Run.{OneOf}
 use denote.Enum.Declared.{tagOf}
@@ -21,7 +20,7 @@ use Rattle.definition.proofs.Sequence.{the-type}
 use Rattle.definition.specs.declared.Octet.the-variants.{Byte, Past as No-byte}
 use Rattle.definition.specs.declared.Match.{Match}
 use Rattle.definition.specs.declared.Match.the-variants.{To, Nothing}
-use Rattle.lemmas.proofs.Cases.{by-test, by-order, both}
+use Rattle.lemmas.proofs.Cases.{by-order}
 use Rattle.lemmas.proofs.Loops.{says, Leads}
 use Rattle.text.proofs.Reading.{byte-within, byte-end, with-none}
 use Rattle.progress.proofs.Characters.{ascii-at}
@@ -32,39 +31,6 @@ use Rattle.progress.proofs.Scans.{backtick-from, backtick-unroll, backtick-is}
 use Rattle.matchers.specs.Parts.{hex-pair, in-backticks, backtick-part}
 use Rattle.scan.proofs.ByteLaws.{has-within, has-past}
 use Rattle.scan.proofs.RunLaws.{one-no, no-char}
-
--- ---- a byte among some
-
--- each number of a list is in another
-abbrev all-in : List ℕ → List ℕ → Bool
-all-in [] l = true
-all-in (k ∷ ks) l = mem-cp k l && all-in ks l
-
--- A number that is one of some keys, all of which are in a list, is in that list.
-pub mem-yes : (keys l : List ℕ) (x : ℕ) → all-in keys l ≡ true → OneOf keys x → mem-cp x l ≡ true
-mem-yes [] l x a h = absurd h
-mem-yes (k ∷ []) l x a h = rw h (both (mem-cp k l) true a .0)
-mem-yes (k ∷ k′ ∷ ks) l x a h =
-    let b = both (mem-cp k l) (all-in (k′ ∷ ks) l) a in
-    ⊎-elim (λ q. rw q (b .0)) (mem-yes (k′ ∷ ks) l x (b .1)) h
-
--- A number in the list of the keys is one of them.
-key-of : (keys : List ℕ) (x : ℕ) → mem-cp x keys ≡ true → OneOf keys x
-unfolding mem-cp
-key-of [] x e = absurd (false≢true e)
-key-of (k ∷ []) x e = by-test (λ t. t ≡ true → x ≡ k) (eqb k x) (λ q _. sym (eqb-true k x q)) (λ _ r. absurd (false≢true r)) e
-key-of (k ∷ k′ ∷ ks) x e =
-    by-test (λ t. t ≡ true → OneOf (k ∷ k′ ∷ ks) x) (eqb k x) (λ q _. inl (sym (eqb-true k x q))) (λ _ r. inr (key-of (k′ ∷ ks) x r)) e
-
--- A number that is none of some keys is in no list of them.
-pub mem-no : (keys l : List ℕ) (x : ℕ) → all-in l keys ≡ true → (OneOf keys x → ⊥) → mem-cp x l ≡ false
-unfolding mem-cp
-mem-no keys [] x a h = refl
-mem-no keys (d ∷ l) x a h =
-    let b = both (mem-cp d keys) (all-in l keys) a in
-    by-test (λ t. t ≡ false) (eqb d x)
-    (λ q. absurd (h (subst (OneOf keys) (eqb-true d x q) (key-of keys d (b .0)))))
-    (λ _. mem-no keys l x (b .1) h)
 
 -- ---- escapes
 

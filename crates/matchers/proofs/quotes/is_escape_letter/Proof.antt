@@ -1,7 +1,7 @@
 -- `is_escape_letter` answers for the bytes of the definition's list, and for no others.
 use mathlib.Core.Path.{refl, sym}
 use Rattle.definition.specs.Basics.{codes, mem-cp}
-use Rattle.matchers.proofs.QuoteLaws.{mem-yes, mem-no}
+use Rattle.lemmas.proofs.Members.{mem-yes, mem-no}
 use Rattle.matchers.proofs.quotes.is_escape_letter.Statement.{statement}
 use Rattle.matchers.proofs.quotes.is_escape_letter.Tie as tie
 

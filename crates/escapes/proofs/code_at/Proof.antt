@@ -1,0 +1,34 @@
+-- The code point sees nothing but what stands at the offset.
+use mathlib.Core.Path.{sym, _∙_}
+use borrow.Author.Needs.{needs}
+use Rattle.escapes.proofs.Behind.{code-of}
+use Rattle.escapes.proofs.code_at.Statement.{statement}
+use Rattle.escapes.proofs.code_at.Tie as tie
+
+sequence-at-requires : tie.Need-sequence-at-requires
+sequence-at-requires c κs = search needs
+
+enum-known-c : tie.Need-enum-known-c
+enum-known-c c = search needs
+
+enum-told : tie.Need-enum-told
+enum-told c = search needs
+
+enum-told-2 : tie.Need-enum-told-2
+enum-told-2 c = search needs
+
+returns : tie.Need-returns
+returns c =
+    let d = c .before .before .before in
+    sym (code-of _ _ (sym (d .sequence-at .ensures) ∙ c .before .c .given .1))
+
+returns-2 : tie.Need-returns-2
+returns-2 c = sym (code-of _ _ (sym (c .before .before .sequence-at .ensures) ∙ c .enum-told .given .1))
+
+returns-3 : tie.Need-returns-3
+returns-3 c = sym (code-of _ _ (sym (c .before .before .sequence-at .ensures) ∙ c .enum-told2 .given .1))
+
+pub code-at-spec : {M : Type 1} → statement M
+code-at-spec =
+    tie.close
+    (tie.spec sequence-at-requires enum-known-c enum-told enum-told-2 returns returns-2 returns-3)

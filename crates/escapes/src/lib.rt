@@ -1,0 +1,131 @@
+// The characters that escapes denote, and the bytes of a character.
+// Proved: each public function is the definition's of the same name; `unescape` at any offset of any bytes. A writer
+// changes nothing behind the bytes that it writes.
+// Assumed: of `encode_into` that the number is at most 10FFFF and that its bytes fit.
+use definition::Octet;
+use definition::Sequence;
+use numerals::digit_value;
+use text::byte;
+use text::sequence_at;
+ghost use mathlib.Core.Path.{_≡_};
+ghost use lib.ListN.{length};
+ghost use Rattle.definition.specs.Utf8.{encode};
+ghost use Rattle.definition.specs.Escapes.{code-at, hex-value, unescape, is-surrogate};
+ghost use Rattle.lemmas.specs.Over.{Wrote};
+ghost use Rattle.escapes.specs.Contracts.{Digits, Behind, escaped, Encodes};
+
+// The code point at i, 0 where no character stands.
+fn code_at(text: &[u8], i: usize) -> u32
+    ensures { λ r. ⌜ r ≡ code-at (now (text .entry)) i ⌝ }
+{
+    match sequence_at(text, i) {
+        Sequence::Char(c, _) => c,
+        Sequence::Bad => 0,
+        Sequence::End => 0,
+    }
+}
+
+// The value of n hexadecimal digits from k on, or of those that the text still has.
+fn hex_value(text: &[u8], k: usize, n: usize) -> u32
+    requires { ⌜ Digits (now text) k n ⌝ }
+    ensures { λ r. ⌜ r ≡ hex-value (now (text .entry)) k n ⌝ }
+{
+    let mut value: u32 = 0;
+    let mut i = 0;
+    while i < n {
+        if text.len() <= k + i {
+            return value;
+        }
+        value = value * 16 + digit_value(text[k + i]);
+        i += 1;
+    }
+    value
+}
+
+// What the byte c at i + 1, behind a backslash, denotes, together with what follows it.
+fn escaped(text: &[u8], i: usize, c: u8) -> u32
+    requires { ⌜ Behind (now text) i ⌝ }
+    ensures { λ r. ⌜ r ≡ escaped (now (text .entry)) i c ⌝ }
+{
+    match c {
+        b'0' => 0,
+        b'b' => 8,
+        b't' => 9,
+        b'n' => 10,
+        b'v' => 11,
+        b'f' => 12,
+        b'r' => 13,
+        b'u' => hex_value(text, i + 2, 4),
+        b'x' => hex_value(text, i + 2, 2),
+        _ => code_at(text, i + 1),
+    }
+}
+
+// The character that the escape, or the character, at i denotes.
+pub fn unescape(text: &[u8], i: usize) -> u32
+    ensures { λ r. ⌜ r ≡ unescape (now (text .entry)) i ⌝ }
+{
+    let Octet::Byte(first) = byte(text, i) else {
+        return 0;
+    };
+    if first != b'\\' {
+        return code_at(text, i);
+    }
+    let Octet::Byte(c) = byte(text, i + 1) else {
+        return 0;
+    };
+    escaped(text, i, c)
+}
+
+// A number that `\u` can give and that is no character.
+pub fn is_surrogate(c: u32) -> bool
+    ensures { λ r. ⌜ r ≡ is-surrogate c ⌝ }
+{
+    if c < 0xD800 {
+        return false;
+    }
+    c <= 0xDFFF
+}
+
+// How many bytes a character has in UTF-8.
+pub fn encode_length(c: u32) -> usize
+    ensures { λ r. ⌜ r ≡ length (encode c) ⌝ }
+{
+    if c <= 0x7F {
+        return 1;
+    }
+    if c <= 0x7FF {
+        return 2;
+    }
+    if c <= 0xFFFF {
+        return 3;
+    }
+    4
+}
+
+// Writes the bytes of a character to the front of the buffer, and says how many they are.
+pub fn encode_into(c: u32, out: &mut [u8]) -> usize
+    requires { ⌜ Encodes c (now out) ⌝ }
+    ensures { λ r. ⌜ Wrote (encode c) (now (out .entry)) (now (out .exit)) r ⌝ }
+{
+    if c < 0x80 {
+        out[0] = c as u8;
+        return 1;
+    }
+    if c < 0x800 {
+        out[0] = (0xC0 + c / 64) as u8;
+        out[1] = (0x80 + c % 64) as u8;
+        return 2;
+    }
+    if c < 0x10000 {
+        out[0] = (0xE0 + c / 4096) as u8;
+        out[1] = (0x80 + c / 64 % 64) as u8;
+        out[2] = (0x80 + c % 64) as u8;
+        return 3;
+    }
+    out[0] = (0xF0 + c / 262144) as u8;
+    out[1] = (0x80 + c / 4096 % 64) as u8;
+    out[2] = (0x80 + c / 64 % 64) as u8;
+    out[3] = (0x80 + c % 64) as u8;
+    4
+}

@@ -1,0 +1,3 @@
+pub mod Stripping
+pub mod Values
+pub mod Digits
