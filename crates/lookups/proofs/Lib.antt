@@ -1,0 +1,4 @@
+pub mod Prefix
+pub mod Chains
+pub mod Rows
+pub mod Finds

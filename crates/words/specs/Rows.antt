@@ -1,0 +1,77 @@
+-- The definition's tables as rows of a number and a word: trying some of them in turn, the first that fits, and the order of the code's
+-- table of symbols, by first byte.
+use Prim.Native.Nat.{ℕ, zero, suc}
+use mathlib.Core.Bool.{Bool, true, false}
+use mathlib.Core.List.{List, [], _∷_, _++_, map}
+use lib.Dec.{ltb, eqb}
+use lib.ListN.{length, take, replicate}
+use Rattle.definition.specs.Basics.{Bytes}
+use Rattle.definition.specs.Tables.{Entry, cps, op-tokens, mixfix-rules}
+use Rattle.definition.specs.Matchers.{match-lit}
+use Rattle.definition.specs.Select.{keep, found}
+use Rattle.definition.specs.declared.Choice.{Choice}
+use Rattle.definition.specs.declared.Match.{Match}
+use Rattle.definition.specs.declared.Match.the-variants.{To, Nothing}
+
+-- a word and its number in its table
+abbrev pub Row : Type 0
+Row = ℕ × Bytes
+
+-- the rows of a table whose first word is numbered w
+abbrev pub numbered : ℕ → List Entry → List Row
+numbered w [] = []
+numbered w (e ∷ es) = (w, cps (e .0)) ∷ numbered (suc w) es
+
+-- a word in a row of n bytes
+abbrev pub pad : ℕ → Bytes → Bytes
+pad n w = take n (w ++ replicate n 0)
+
+-- the words in rows of n bytes
+abbrev pub padded : ℕ → List Row → List Bytes
+padded n rs = map (λ (r : Row). pad n (r .1)) rs
+
+-- the length of each word, and its number
+abbrev pub marks : List Row → List (List ℕ)
+marks rs = map (λ (r : Row). length (r .1) ∷ r .0 ∷ []) rs
+
+-- each row is tried in turn, as the definition's `try-words` tries the words of a table
+unfoldable pub try-rows : ℕ → ℕ → (Bytes → Match) → List Row → Choice → Choice
+try-rows i place m [] best = best
+try-rows i place m (r ∷ rs) best = try-rows i place m rs (keep best (found i place (r .0) (m (r .1))))
+
+-- how many rows there are before the first whose word stands at i
+unfoldable pub first-fit : Bytes → ℕ → List Row → ℕ
+first-fit s i [] = zero
+first-fit s i (r ∷ rs) = elim (match-lit s (r .1) i) [ To e ↦ zero | Nothing ↦ suc (first-fit s i rs) ]
+
+-- the rows that pass a test
+abbrev pub only-rows : (Row → Bool) → List Row → List Row
+only-rows q [] = []
+only-rows q (r ∷ rs) = elim (q r) [ true ↦ r ∷ only-rows q rs | false ↦ only-rows q rs ]
+
+-- a word may stand where the byte b does
+abbrev pub starts-with : ℕ → Bytes → Bool
+starts-with b [] = true
+starts-with b (c ∷ l) = eqb c b
+
+-- a word begins with a byte below b
+abbrev pub starts-below : ℕ → Bytes → Bool
+starts-below b [] = false
+starts-below b (c ∷ l) = ltb c b
+
+-- the operator tokens that may stand where the byte b does
+abbrev pub tokens-at : ℕ → List Row
+tokens-at b = only-rows (λ r. starts-with b (r .1)) (numbered 0 op-tokens)
+
+-- how many operator tokens begin with a byte below b
+unfoldable pub rank : ℕ → ℕ
+rank b = length (only-rows (λ r. starts-below b (r .1)) (numbered 0 op-tokens))
+
+-- the operator tokens by first byte, n bytes from b on
+abbrev pub by-byte : ℕ → ℕ → List Row
+by-byte b zero = []
+by-byte b (suc n) = tokens-at b ++ by-byte (suc b) n
+
+-- the rows of the code's table of symbols
+unfoldable pub symbols : List Row
+symbols = by-byte 0 256 ++ numbered 0 mixfix-rules
