@@ -1,128 +1,104 @@
+-- Each case is the definition's, and its sums fit because the whole length does.
 use native.Mathlib.Omega.{arith}
+use Rattle.described.specs.Described.{Listed, length-of}
 use borrow.Author.Needs.{needs}
 use Rattle.described.proofs.length_of.Statement.{statement}
 use Rattle.described.proofs.length_of.Tie as tie
-use Rattle.described.proofs.length_of.Reads as reads
-use Rattle.described.proofs.length_of.Lts as lts
-use Rattle.described.proofs.span.Reads as span-reads
-use Rattle.entries.proofs.text_length.Reads as text-length-reads
-use Rattle.numerals.proofs.show_length.Reads as show-length-reads
 
--- src/lib.rt:62:25
 enum-known-payload : tie.Need-enum-known-payload
 enum-known-payload c = search needs
 
--- src/lib.rt:62:39
 span-requires : tie.Need-span-requires
 span-requires c κs = search needs
 
--- src/lib.rt:63:23
 enum-known-payload-2 : tie.Need-enum-known-payload-2
 enum-known-payload-2 c = search needs
 
--- src/lib.rt:63:29
 text-length-requires : tie.Need-text-length-requires
-text-length-requires c κs = ?
+text-length-requires c κs = rw (c .before .payload2 .given .1) at (c .before .before .before .before .pre .listed)
 
--- src/lib.rt:64:28
 enum-known-payload-3 : tie.Need-enum-known-payload-3
 enum-known-payload-3 c = search needs
 
--- src/lib.rt:64:46
 span-requires-2 : tie.Need-span-requires-2
 span-requires-2 c κs = search needs
 
--- src/lib.rt:64:42
 add-result : tie.Need-add-result
-add-result c = ?
+add-result c =
+    let small = rw (c .before .before .payload3 .given .1) at (c .before .before .before .before .before .pre .small) in
+    omega (arith, c .span2 .ensures)
 
--- src/lib.rt:65:26
 enum-told : tie.Need-enum-told
 enum-told c = search needs
 
--- src/lib.rt:66:23
 enum-known-payload-4 : tie.Need-enum-known-payload-4
 enum-known-payload-4 c = search needs
 
--- src/lib.rt:66:29
 show-length-requires : tie.Need-show-length-requires
 show-length-requires c κs = search needs
 
--- src/lib.rt:67:27
 enum-known-payload-5 : tie.Need-enum-known-payload-5
 enum-known-payload-5 c = search needs
 
--- src/lib.rt:67:47
 show-length-requires-2 : tie.Need-show-length-requires-2
 show-length-requires-2 c κs = search needs
 
--- src/lib.rt:67:47
 add-result-2 : tie.Need-add-result-2
-add-result-2 c = ?
+add-result-2 c =
+    let small = rw (c .before .before .payload5 .given .1) at (c .before .before .before .before .before .pre .small) in
+    omega (arith, c .show-length2 .ensures)
 
--- src/lib.rt:67:33
 add-result-3 : tie.Need-add-result-3
-add-result-3 c = ?
+add-result-3 c =
+    let small = rw (c .before .before .payload5 .given .1) at (c .before .before .before .before .before .pre .small) in
+    omega (arith, c .show-length2 .ensures)
 
--- src/lib.rt:68:37
 enum-known-payload-6 : tie.Need-enum-known-payload-6
 enum-known-payload-6 c = search needs
 
--- src/lib.rt:69:52
 enum-known-payload-7 : tie.Need-enum-known-payload-7
 enum-known-payload-7 c = search needs
 
--- src/lib.rt:70:25
 enum-known-payload-8 : tie.Need-enum-known-payload-8
 enum-known-payload-8 c = search needs
 
--- src/lib.rt:70:54
 span-requires-3 : tie.Need-span-requires-3
 span-requires-3 c κs = search needs
 
--- src/lib.rt:70:71
 span-requires-4 : tie.Need-span-requires-4
 span-requires-4 c κs = search needs
 
--- src/lib.rt:70:54
 add-result-4 : tie.Need-add-result-4
-add-result-4 c = ?
+add-result-4 c =
+    let small = rw (c .before .before .before .payload8 .given .1) at (c .before .before .before .before .before .before .pre .small) in
+    omega (arith, c .before .span3 .ensures, c .span4 .ensures)
 
--- src/lib.rt:57:1
 returns : tie.Need-returns
-returns c = ?
+returns c = rw (c .before .before .payload .given .1) (c .span .ensures)
 
--- src/lib.rt:57:1
 returns-2 : tie.Need-returns-2
-returns-2 c = ?
+returns-2 c = rw (c .before .before .payload2 .given .1) (c .text-length .ensures)
 
--- src/lib.rt:57:1
 returns-3 : tie.Need-returns-3
-returns-3 c = ?
+returns-3 c = rw (c .before .before .payload3 .given .1) (omega (arith, c .span2 .ensures))
 
--- src/lib.rt:57:1
 returns-4 : tie.Need-returns-4
-returns-4 c = ?
+returns-4 c = rw (c .enum-told .given .1)
 
--- src/lib.rt:57:1
 returns-5 : tie.Need-returns-5
-returns-5 c = ?
+returns-5 c = rw (c .before .before .payload4 .given .1) (c .show-length .ensures)
 
--- src/lib.rt:57:1
 returns-6 : tie.Need-returns-6
-returns-6 c = ?
+returns-6 c = rw (c .before .before .payload5 .given .1) (omega (arith, c .show-length2 .ensures))
 
--- src/lib.rt:57:1
 returns-7 : tie.Need-returns-7
 returns-7 c = search needs
 
--- src/lib.rt:57:1
 returns-8 : tie.Need-returns-8
-returns-8 c = ?
+returns-8 c = rw (c .before .payload7 .given .1)
 
--- src/lib.rt:57:1
 returns-9 : tie.Need-returns-9
-returns-9 c = ?
+returns-9 c = rw (c .before .before .before .payload8 .given .1) (omega (arith, c .before .span3 .ensures, c .span4 .ensures))
 
 pub length-of-spec : {M : Type 1} → statement M
 length-of-spec =
