@@ -5,3 +5,5 @@ pub mod Turns
 pub mod Readers
 pub mod Steps
 pub mod Refusals
+pub mod Endings
+pub mod Demand3
