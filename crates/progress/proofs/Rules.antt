@@ -2,14 +2,15 @@
 -- proved of each shape and holds of what is done with a choice. Rests on nothing but the definition.
 use Prim.Native.Nat.{ℕ, _+_, _-_, _≤_}
 use Prim.Native.String.{String}
-use mathlib.Core.Path.{_≡_, subst}
-use mathlib.Core.Bool.{false}
-use mathlib.Core.List.{List, [], _++_}
+use mathlib.Core.Path.{_≡_, refl, subst}
+use mathlib.Core.Bool.{Bool, true, false, _&&_}
+use mathlib.Core.List.{List, [], _∷_, _++_}
 use native.Mathlib.Omega.{arith}
-use lib.Dec.{eqb}
-use lib.ListN.{getD}
+use lib.Dec.{leb, eqb}
+use lib.ListN.{length, getD}
 use borrow.Author.Tests.{eqb-false}
 use Rattle.definition.specs.Basics.{Bytes, again, done}
+use Rattle.definition.specs.Utf8.{encode, encode-all}
 use Rattle.definition.specs.Text.{lexeme}
 use Rattle.definition.specs.Tables.{Entry, cps, constructors, op-tokens, uoperators, kw-op-rules}
 use Rattle.definition.specs.Position.{cur-pos}
@@ -31,6 +32,11 @@ file-place = 4
 abbrev pub file-line-place : ℕ
 file-line-place = 6
 
+-- no text of a table is longer than 100 bytes
+abbrev pub texts-small : List Entry → Bool
+texts-small [] = true
+texts-small (e ∷ es) = leb (length (cps (e .2))) 100 && texts-small es
+
 -- place k does this with a choice
 pub data Shape (s name f : Bytes) : ℕ → Rule → Type 0 where
   -- a token without a payload, or with one that its table or the definition has
@@ -49,7 +55,7 @@ pub data Shape (s name f : Bytes) : ℕ → Rule → Type 0 where
   bad-number-rule : {k : ℕ} → Shape s name f k (λ st e w. bad-number s st e)
   char-rule : {k : ℕ} → Shape s name f k (λ st e w. char-lit s st e)
   ident-rule : {k : ℕ} → Shape s name f k (λ st e w. ident s st e)
-  word-rule : {k : ℕ} (table : List Entry) (x : String) → Shape s name f k (λ st e w. finish-word s st e table x)
+  word-rule : {k : ℕ} (table : List Entry) (x : String) → texts-small table ≡ true → Shape s name f k (λ st e w. finish-word s st e table x)
   kw-op-rule : Shape s name f kw-op-place (λ st e w. kw-op s st e (entry kw-op-rules w))
   gt-rule : {k : ℕ} → Shape s name f k (λ st e w. gt s st e)
   op-rule : {k : ℕ} (x : String) → Shape s name f k (λ st e w. op s st e x)
@@ -66,7 +72,7 @@ pub data Shape (s name f : Bytes) : ℕ → Rule → Type 0 where
 module _ (s name f : Bytes) where
   -- each rule, in order
   shapes : Numbered (Shape s name f) 1 (rules s name f)
-  unfolding rules
+  unfolding rules constructors uoperators cps encode-all encode
   shapes =
       fixed-rule _
       ⨟ blob-rule
@@ -82,7 +88,7 @@ module _ (s name f : Bytes) where
       ⨟ kw-op-rule
       ⨟ fixed-rule _
       ⨟ ident-rule
-      ⨟ word-rule constructors "NAME"
+      ⨟ word-rule constructors "NAME" refl
       ⨟ number-rule "INT"
       ⨟ uint8-rule
       ⨟ number-rule "INT8"
@@ -116,7 +122,7 @@ module _ (s name f : Bytes) where
       ⨟ op-rule "OPINFIX1"
       ⨟ op-rule "OPINFIX2"
       ⨟ op-rule "OPINFIX3L"
-      ⨟ word-rule uoperators "OPINFIX4"
+      ⨟ word-rule uoperators "OPINFIX4" refl
       ⨟ part-rule _ (λ st e. st .offset) (λ st e. e) (λ st e. (omega arith, omega arith))
       ⨟ no-more
 

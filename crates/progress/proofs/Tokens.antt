@@ -133,7 +133,7 @@ module _ (s : Bytes) where
     shape-says k r bad-number-rule st e w c = λ _. ended-gives s st _ refl refl refl
     shape-says k r char-rule st e w c = λ _. onward-gives s st _ (c .onward) refl refl
     shape-says k r ident-rule st e w c = ident-says st e (c .onward)
-    shape-says k r (word-rule table x) st e w c = word-says st e (c .onward) table x
+    shape-says k r (word-rule table x small) st e w c = word-says st e (c .onward) table x
     shape-says k r kw-op-rule st e w c = kw-op-says st e c (entry kw-op-rules w)
     shape-says k r gt-rule st e w c = gt-says st e (c .onward)
     shape-says k r (op-rule x) st e w c = op-says st e (c .onward) x

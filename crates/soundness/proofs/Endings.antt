@@ -163,7 +163,7 @@ module _ (s : Bytes) where
     shape-ends k r bad-number-rule st e w m = λ _. refl
     shape-ends k r char-rule st e w m = awake m
     shape-ends k r ident-rule st e w m = ident-ends st m e
-    shape-ends k r (word-rule table x) st e w m = word-ends st m e table x
+    shape-ends k r (word-rule table x small) st e w m = word-ends st m e table x
     shape-ends k r kw-op-rule st e w m = awake m
     shape-ends k r gt-rule st e w m = awake m
     shape-ends k r (op-rule x) st e w m = op-ends st m e x

@@ -7,3 +7,4 @@ pub mod Steps
 pub mod Refusals
 pub mod Endings
 pub mod Demand3
+pub mod Sizes

@@ -108,7 +108,7 @@ module _ (s : Bytes) where
     shape-safe k r bad-number-rule st e w c h m = ended-stands h m
     shape-safe k r char-rule st e w c h m = walk-stands h (c .onward .walk)
     shape-safe k r ident-rule st e w c h m = ident-safe st h m (c .onward .walk)
-    shape-safe k r (word-rule table x) st e w c h m = word-safe st h m (c .onward .walk) table x
+    shape-safe k r (word-rule table x small) st e w c h m = word-safe st h m (c .onward .walk) table x
     shape-safe k r kw-op-rule st e w c h m = walk-stands h (no-comment-walks s (st .offset) (st .offset) e (c .onward .walk) (omega arith))
     shape-safe k r gt-rule st e w c h m = walk-stands h (no-comment-walks s (st .offset) (st .offset + 1) e (c .onward .walk) (omega arith))
     shape-safe k r (op-rule x) st e w c h m = op-safe st h m (c .onward) x
