@@ -27,3 +27,8 @@ pub numbered-at : {A : Type 0} {P : ℕ → A → Type 0} {n : ℕ} {l : List A}
 numbered-at d h no-more k = h _
 numbered-at {P = P} {n} {l = a ∷ l} d h (p ⨟ ps) zero = let q : n ≡ n + 0 = omega arith in subst (λ m. P m a) q p
 numbered-at {P = P} {n} {l = a ∷ l} d h (p ⨟ ps) (suc k) = let q : suc n + k ≡ n + suc k = omega arith in subst (λ m. P m (getD l k d)) q (numbered-at d h ps k)
+
+-- what follows from P of each element and its number
+pub numbered-map : {A : Type 0} {P Q : ℕ → A → Type 0} {n : ℕ} {l : List A} → ((k : ℕ) (a : A) → P k a → Q k a) → Numbered P n l → Numbered Q n l
+numbered-map f no-more = no-more
+numbered-map f (p ⨟ ps) = f _ _ p ⨟ numbered-map f ps

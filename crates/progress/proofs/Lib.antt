@@ -10,6 +10,7 @@ pub mod Moves
 pub mod Comments
 pub mod Literals
 pub mod Cuts
+pub mod Rules
 pub mod Tokens
 pub mod Items
 pub mod Fuel

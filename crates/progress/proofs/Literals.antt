@@ -78,7 +78,7 @@ module _ (s : Bytes) where
   -- ---- strings
 
   -- a byte at which a string neither goes on nor ends is a character: it can only be a backslash
-  lone-clean : (i : ℕ) → run-end string-stop s i ≤ i → match-newline s i ≡ Nothing → i < length s → Clean s i → Clean s (i + 1)
+  pub lone-clean : (i : ℕ) → run-end string-stop s i ≤ i → match-newline s i ≡ Nothing → i < length s → Clean s i → Clean s (i + 1)
   unfolding string-stop
   lone-clean i h n k c = go (string-stop x) refl
     where

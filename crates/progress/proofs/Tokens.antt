@@ -8,12 +8,12 @@ use mathlib.Core.List.{List, []}
 use mathlib.Core.Option.{Option, none, some}
 use native.Mathlib.Omega.{arith}
 use lib.Dec.{eqb}
-use lib.ListN.{length, getD}
+use lib.ListN.{length}
 use borrow.Author.Tests.{eqb-true, eqb-false}
-use Rattle.definition.specs.Basics.{Bytes, Turn, again, done, loop, fuel, ch}
+use Rattle.definition.specs.Basics.{Bytes, Turn, loop, fuel, ch}
 use Rattle.definition.specs.Text.{byte-is, lexeme}
 use Rattle.definition.specs.Chars.{is-newline-char}
-use Rattle.definition.specs.Tables.{Entry, cps, find, keywords, constructors, uoperators, kw-op-rules}
+use Rattle.definition.specs.Tables.{Entry, cps, find, keywords, kw-op-rules}
 use Rattle.definition.specs.Position.{cur-pos}
 use Rattle.definition.specs.Kinds.{kind}
 use Rattle.definition.specs.Matchers.{no-comment}
@@ -21,40 +21,15 @@ use Rattle.definition.specs.Select.{select}
 use Rattle.definition.specs.Numbers.{clean-number, int-of-string}
 use Rattle.definition.specs.State.{advance, new-line, open-comment}
 use Rattle.definition.specs.Item.{Step, lex-error}
-use Rattle.definition.specs.Comment.{line-comment}
-use Rattle.definition.specs.Strings.{string-lit}
-use Rattle.definition.specs.Blob.{blob, use-lang}
-use Rattle.definition.specs.Token.{
-  reserved-prefix,
-  starts-with,
-  finish,
-  finish-entry,
-  finish-word,
-  header,
-  char-lit,
-  kw-op,
-  ident,
-  uint8,
-  bad-number,
-  comment-start,
-  gt,
-  op,
-  any,
-  entry,
-  Rule,
-  rules,
-  act,
-  token-turn,
-  next-token,
-}
+use Rattle.definition.specs.Token.{reserved-prefix, starts-with, finish, finish-entry, finish-word, header, kw-op, ident, uint8, comment-start, gt, op, any, entry, Rule, act, token-turn, next-token}
 use Rattle.definition.specs.declared.Choice.{Choice}
 use Rattle.definition.specs.declared.State.{State}
 use Rattle.lemmas.proofs.Loops.{says, Leads, Falls, Any, loop-same, loop-unroll}
 use Rattle.lemmas.proofs.Cases.{by-test, by-lt, by-le}
-use Rattle.lemmas.proofs.Each.{Numbered, no-more, _⨟_, numbered-at}
 use Rattle.progress.proofs.Walks.{rest, Onward, onward-walk, walk-forward, walk-past, star-walks, clean-walk}
 use Rattle.progress.proofs.Cuts.{slash-goes-on, slash-at, no-comment-walks, no-comment-onward, no-comment-slash}
 use Rattle.progress.proofs.Choices.{kw-op-place, Chosen, Fits, select-fits}
+use Rattle.progress.proofs.Rules.{Shape, fixed-rule, text-rule, table-rule, file-rule, line-rule, file-line-rule, part-rule, number-rule, uint8-rule, bad-number-rule, char-rule, ident-rule, word-rule, kw-op-rule, gt-rule, op-rule, skip-rule, new-line-rule, string-rule, blob-rule, lang-rule, comment-rule, line-comment-rule, every-rule}
 use Rattle.progress.proofs.Scans.{star-onward}
 use Rattle.progress.proofs.Moves.{Gives, onward-gives, ended-gives, Moves, onward-moves, reading-falls, reading-gives}
 use Rattle.progress.proofs.Comments.{comment-gives, line-comment-gives}
@@ -135,145 +110,47 @@ module _ (s : Bytes) where
           let z : p .code ≡ ch "/" = cc in
           absurd (false≢true (subst (λ x. not (eqb x (ch "/")) ≡ true) z (p .passes)))
 
-  -- what place k does with a choice that it may make
-  abbrev Does : ℕ → Rule → Type 0
-  Does k r = (st : State) (e w : ℕ) → Chosen s (st .offset) k e → Says st (r st e w)
-
-  -- the place moves on, and the item is read behind
-  finishes : {k : ℕ} (kinds : State → ℕ → ℕ → ℕ) (texts : State → ℕ → ℕ → Bytes) → Does k (λ st e w. finish s st e (kinds st e w) (texts st e w))
-  finishes kinds texts st e w c = finish-says st e (c .onward) (kinds st e w) (texts st e w)
-
-  -- the place is skipped
-  skips : {k : ℕ} → Does k (λ st e w. again (advance st e))
-  skips st e w c = onward-moves s st (advance st e) (c .onward) refl refl
-
-  -- a newline is skipped
-  skips-line : {k : ℕ} → Does k (λ st e w. again (new-line (advance st e)))
-  skips-line st e w c = onward-moves s st (new-line (advance st e)) (c .onward) refl refl
-
-  -- the other things that a place does
-  blobs : {k : ℕ} → Does k (λ st e w. done (blob s (header s st e 3) (advance st e)))
-  blobs st e w c _ = blob-gives s (header s st e 3) st (advance st e) (c .onward) refl refl
-
-  -- `use_lang`
-  langs : {k : ℕ} → Does k (λ st e w. done (use-lang s (header s st e 6) (advance st e)))
-  langs st e w c _ = lang-gives s (header s st e 6) st (advance st e) (c .onward) refl refl
-
-  -- character literals
-  chars : {k : ℕ} → Does k (λ st e w. char-lit s st e)
-  chars st e w c _ = onward-gives s st _ (c .onward) refl refl
-
-  -- keywords before operators
-  kw-ops : Does kw-op-place (λ st e w. kw-op s st e (entry kw-op-rules w))
-  kw-ops st e w c = kw-op-says st e c (entry kw-op-rules w)
-
-  -- identifiers
-  idents : {k : ℕ} → Does k (λ st e w. ident s st e)
-  idents st e w c = ident-says st e (c .onward)
-
-  -- words of a table
-  words : {k : ℕ} (table : List Entry) (x : String) → Does k (λ st e w. finish-word s st e table x)
-  words table x st e w c = word-says st e (c .onward) table x
-
-  -- numbers of a byte
-  uint8s : {k : ℕ} → Does k (λ st e w. uint8 s st e)
-  uint8s st e w c = uint8-says st e (c .onward)
-
-  -- bad numbers end the reading
-  bad-numbers : {k : ℕ} → Does k (λ st e w. bad-number s st e)
-  bad-numbers st e w c _ = ended-gives s st _ refl refl refl
-
-  -- comments
-  comments : {k : ℕ} → Does k (λ st e w. comment-start s st e)
-  comments st e w c = comment-says st e (c .onward)
-
-  -- lines' comments
-  line-comments : {k : ℕ} → Does k (λ st e w. done (line-comment s (lexeme s (st .offset) e) (advance st e)))
-  line-comments st e w c _ =
-      line-comment-gives s (lexeme s (st .offset) e) st (advance st e) (onward-walk (c .onward) (star-walks (λ c. not (is-newline-char c)) s e)) refl refl
-
-  -- `RGt`
-  gts : {k : ℕ} → Does k (λ st e w. gt s st e)
-  gts st e w c = gt-says st e (c .onward)
-
-  -- operators
-  operators : {k : ℕ} (x : String) → Does k (λ st e w. op s st e x)
-  operators x st e w c = op-says st e (c .onward) x
-
-  -- strings
-  strings : {k : ℕ} (f : Bytes) → Does k (λ st e w. done (string-lit s f (advance st e) (cur-pos s st)))
-  strings f st e w c _ = string-gives s f (cur-pos s st) st (advance st e) (c .onward) refl refl
-
   -- an unexpected character ends the reading
   any-says : (st : State) → Says st (any s st)
   any-says st _ = ended-gives s st _ refl refl refl
 
   module _ (name f : Bytes) where
-    -- each place, in order
-    rules-do : Numbered Does 1 (rules s name f)
-    unfolding rules
-    rules-do =
-        finishes _ _
-        ⨟ blobs
-        ⨟ langs
-        ⨟ finishes _ _
-        ⨟ finishes _ _
-        ⨟ finishes _ _
-        ⨟ skips
-        ⨟ skips-line
-        ⨟ chars
-        ⨟ chars
-        ⨟ finishes _ _
-        ⨟ kw-ops
-        ⨟ finishes _ _
-        ⨟ idents
-        ⨟ words constructors "NAME"
-        ⨟ finishes _ _
-        ⨟ uint8s
-        ⨟ finishes _ _
-        ⨟ finishes _ _
-        ⨟ finishes _ _
-        ⨟ finishes _ _
-        ⨟ finishes _ _
-        ⨟ finishes _ _
-        ⨟ finishes _ _
-        ⨟ finishes _ _
-        ⨟ finishes _ _
-        ⨟ bad-numbers
-        ⨟ comments
-        ⨟ skips
-        ⨟ line-comments
-        ⨟ strings f
-        ⨟ finishes _ _
-        ⨟ finishes _ _
-        ⨟ finishes _ _
-        ⨟ finishes _ _
-        ⨟ finishes _ _
-        ⨟ finishes _ _
-        ⨟ gts
-        ⨟ operators "OPINFIX3R"
-        ⨟ operators "OPINFIX4"
-        ⨟ operators "OPPREFIX"
-        ⨟ operators "OPINFIX0a"
-        ⨟ operators "OPINFIX0b"
-        ⨟ operators "OPINFIX0c"
-        ⨟ operators "OPINFIX0d"
-        ⨟ operators "OPINFIX1"
-        ⨟ operators "OPINFIX2"
-        ⨟ operators "OPINFIX3L"
-        ⨟ words uoperators "OPINFIX4"
-        ⨟ finishes _ _
-        ⨟ no-more
+    -- what place k does with a choice that it may make
+    abbrev Does : ℕ → Rule → Type 0
+    Does k r = (st : State) (e w : ℕ) → Chosen s (st .offset) k e → Says st (r st e w)
+
+    -- what each shape of rules does
+    shape-says : (k : ℕ) (r : Rule) → Shape s name f k r → Does k r
+    shape-says k r (fixed-rule kinds) st e w c = finish-says st e (c .onward) _ _
+    shape-says k r (text-rule x t) st e w c = finish-says st e (c .onward) _ _
+    shape-says k r table-rule st e w c = finish-says st e (c .onward) _ _
+    shape-says k r file-rule st e w c = finish-says st e (c .onward) _ _
+    shape-says k r line-rule st e w c = finish-says st e (c .onward) _ _
+    shape-says k r file-line-rule st e w c = finish-says st e (c .onward) _ _
+    shape-says k r (part-rule kinds from to h) st e w c = finish-says st e (c .onward) _ _
+    shape-says k r (number-rule x) st e w c = finish-says st e (c .onward) _ _
+    shape-says k r uint8-rule st e w c = uint8-says st e (c .onward)
+    shape-says k r bad-number-rule st e w c = λ _. ended-gives s st _ refl refl refl
+    shape-says k r char-rule st e w c = λ _. onward-gives s st _ (c .onward) refl refl
+    shape-says k r ident-rule st e w c = ident-says st e (c .onward)
+    shape-says k r (word-rule table x small) st e w c = word-says st e (c .onward) table x
+    shape-says k r kw-op-rule st e w c = kw-op-says st e c (entry kw-op-rules w)
+    shape-says k r gt-rule st e w c = gt-says st e (c .onward)
+    shape-says k r (op-rule x) st e w c = op-says st e (c .onward) x
+    shape-says k r skip-rule st e w c = onward-moves s st (advance st e) (c .onward) refl refl
+    shape-says k r new-line-rule st e w c = onward-moves s st (new-line (advance st e)) (c .onward) refl refl
+    shape-says k r string-rule st e w c = λ _. string-gives s f (cur-pos s st) st (advance st e) (c .onward) refl refl
+    shape-says k r blob-rule st e w c = λ _. blob-gives s (header s st e 3) st (advance st e) (c .onward) refl refl
+    shape-says k r lang-rule st e w c = λ _. lang-gives s (header s st e 6) st (advance st e) (c .onward) refl refl
+    shape-says k r comment-rule st e w c = comment-says st e (c .onward)
+    shape-says k r line-comment-rule st e w c = λ _.
+        line-comment-gives s (lexeme s (st .offset) e) st (advance st e) (onward-walk (c .onward) (star-walks (λ c. not (is-newline-char c)) s e)) refl refl
 
     -- what is done with a choice
     act-says : (st : State) (c : Choice) → Fits s (st .offset) c → Says st (act s name f st c)
     unfolding act
     act-says st c h = by-test (Says st) (eqb (c .place) 0) (λ _. any-says st) λ t.
-        let n : c .place ≡ 0 → ⊥ = eqb-false (c .place) 0 t in
-        let q : 1 + (c .place - 1) ≡ c .place = omega arith in
-        let d : Rule = λ st e w. any s st in
-        subst (λ k. Does k (getD (rules s name f) (c .place - 1) d)) q (numbered-at d (λ k st e w _. any-says st) rules-do (c .place - 1))
-        st (c .end) (c .word) (h .chosen t)
+        every-rule s name f Does shape-says (λ k st e w _. any-says st) (c .place) t st (c .end) (c .word) (h .chosen t)
 
     -- a turn of `next-token`
     pub token-says : (st : State) → Says st (token-turn s name f st)

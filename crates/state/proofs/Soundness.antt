@@ -1,13 +1,13 @@
--- A state that passes the test is sound in every clause. Rests on nothing but the definition.
+-- A state passes the test exactly if it is sound in every clause. Rests on nothing but the definition.
 use Prim.Native.Nat.{_+_, _≤_}
 use mathlib.Core.Path.{_≡_}
 use mathlib.Core.Bool.{true, _&&_}
 use lib.Dec.{leb, eqb}
-use borrow.Author.Tests.{leb-true, eqb-true, eqb-false}
+use borrow.Author.Tests.{le-leb, leb-true, eq-eqb, eqb-true, eqb-false}
 use Rattle.definition.specs.Basics.{Bytes}
 use Rattle.definition.specs.State.{at-character, place-sound, counts-sound, depth-sound, comment-sound, sound}
 use Rattle.definition.specs.declared.State.{State}
-use Rattle.lemmas.proofs.Cases.{by-if, both}
+use Rattle.lemmas.proofs.Cases.{by-if, both, both-true}
 use Rattle.state.specs.Sound.{Sound}
 
 module _ (st : State) where
@@ -57,3 +57,22 @@ sound-means s st t =
       comment-line = leb-true (st .comment .line) (st .line) (c .0);
       comment-col = leb-true (st .comment .col) 2048576 (c .1);
     }
+
+-- A state that is sound in every clause passes the test.
+pub sound-is : (s : Bytes) (st : State) → Sound s st → sound s st ≡ true
+unfolding sound place-sound counts-sound depth-sound comment-sound
+sound-is s st m =
+    both-true _ _
+    (both-true _ _ (m .offset) (both-true _ _ (m .bol) (le-leb _ _ (m .order))))
+    (both-true _ _
+    (both-true _ _ (le-leb _ _ (m .line)) (both-true _ _ (le-leb _ _ (m .column)) (both-true _ _ (le-leb _ _ (m .comments)) (le-leb _ _ (m .mode)))))
+    (both-true _ _ depths (both-true _ _ (le-leb _ _ (m .comment-line)) (le-leb _ _ (m .comment-col)))))
+  where
+    depths : depth-sound st ≡ true
+    depths =
+        by-if (λ t. t ≡ true) (eqb (st .mode) 1)
+        (λ y. le-leb _ _ (m .opened (eqb-true (st .mode) 1 y)))
+        (λ n.
+        let out : st .mode ≡ 1 → ⊥ = eqb-false (st .mode) 1 n in
+        let p = m .nowhere out in
+        both-true _ _ (eq-eqb _ _ (m .level out)) (both-true _ _ (eq-eqb _ _ (p .0)) (eq-eqb _ _ (p .1))))

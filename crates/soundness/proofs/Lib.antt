@@ -1,0 +1,10 @@
+-- `Moving` is what each change of a state keeps, `Turns` one turn of each reader, `Readers` each reader as a whole, `Steps` the choices,
+-- the steps and every state that a run comes to; `Refusals` is what a run that isn't refused was given.
+pub mod Moving
+pub mod Turns
+pub mod Readers
+pub mod Steps
+pub mod Refusals
+pub mod Endings
+pub mod Demand3
+pub mod Sizes

@@ -1,0 +1,12 @@
+-- The payload bytes that a run can still write: 400 for each byte of the text that is left, and 2 for each level of a comment that is
+-- open, until the reading has ended. The longest growth is `__FILELINE__`: for 12 bytes the name, of 4,096 at most, and a line of 7 digits
+-- at most in parentheses.
+use Prim.Native.Nat.{ℕ, _+_, _-_, _*_}
+use mathlib.Core.Bool.{true, false}
+use lib.Dec.{eqb}
+use lib.ListN.{length}
+use Rattle.definition.specs.Basics.{Bytes}
+use Rattle.definition.specs.declared.State.{State}
+
+unfoldable pub budget : Bytes → State → ℕ
+budget s st = elim (eqb (st .mode) 2) [ true ↦ 0 | false ↦ 400 * (length s - st .offset) + 2 * st .depth ]

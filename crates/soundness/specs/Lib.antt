@@ -1,0 +1,2 @@
+-- `Budget` is what a run can still write of payloads.
+pub mod Budget
