@@ -1,9 +1,12 @@
 -- A token that is built from a description reads the definition's, and so does an error. Rests on the laws of where a reader stands.
 use Prim.Native.Nat.{ℕ}
 use mathlib.Core.Path.{_≡_, refl, ap, _∙_}
+use mathlib.Core.List.{[]}
+use native.Mathlib.Omega.{arith}
 use lib.ListN.{length}
 use Rattle.definition.specs.Basics.{Bytes}
 use Rattle.definition.specs.Kinds.{kind}
+use Rattle.definition.specs.Position.{cur-pos}
 use Rattle.definition.specs.State.{ended}
 use Rattle.definition.specs.Item.{tok, lex-error}
 use Rattle.definition.specs.declared.Pos.{Pos}
@@ -15,6 +18,7 @@ use Rattle.positions.specs.Columns.{located}
 use Rattle.positions.specs.declared.Located.{Located}
 use Rattle.positions.specs.declared.Cache.{Cache}
 use Rattle.described.specs.declared.Payload.{Payload}
+use Rattle.described.specs.declared.Payload.the-variants.{Part}
 use Rattle.described.specs.declared.Read.{Read}
 use Rattle.described.specs.Described.{length-of, Describes, Known-at, Reads}
 use Rattle.described.specs.Standing.{Standing}
@@ -44,3 +48,11 @@ error-reads {s} {name} {f} {bytes} {st} {known} {number} {from} {to} {r} here ne
     known-kept st (ended st) refl refl (known-asked h (st .offset) (h .stands .sound .order)) in
     let built = rw (e, q) at build in
     built known
+
+-- an error without a payload stands there too
+pub error-here-reads : {s name : Bytes} {number : ℕ} {r : Read} (st : State) (here : Located) → here ≡ located s st (st .offset)
+    → ((f bytes : Bytes) → Describes s name f (Part 0 0) bytes → Reads s name f (lex-error s st number bytes (here .pos) (here .pos)) r)
+    → (f : Bytes) → Reads s name f (lex-error s st number [] (cur-pos s st) (cur-pos s st)) r
+error-here-reads {s} {name} {number} {r} st here e build f =
+    let built = rw e at build in
+    built f [] (record { is = refl; long = refl; inside = omega arith })

@@ -8,8 +8,9 @@ use Rattle.definition.specs.Basics.{Bytes}
 use Rattle.definition.specs.Position.{one-each, count-chars, col-by, pos-of}
 use Rattle.definition.specs.State.{advance, new-line}
 use Rattle.definition.specs.declared.State.{State}
-use Rattle.positions.specs.Columns.{Asked, column-at}
+use Rattle.positions.specs.Columns.{Asked, column-at, located}
 use Rattle.positions.specs.declared.Cache.{Cache}
+use Rattle.positions.specs.declared.Located.{Located}
 use Rattle.positions.proofs.Counting.{known-again}
 use Rattle.soundness.proofs.Moving.{stands-within}
 use Rattle.described.specs.Described.{Known-at}
@@ -50,3 +51,7 @@ known-kept st next b c h = record { after = rw b (h .after); column = rw (b, c) 
 pub position-kept : (s : Bytes) (st next : State) (i : ℕ) → next .line ≡ st .line → next .bol ≡ st .bol → next .column ≡ st .column → pos-of s next i ≡ pos-of s st i
 unfolding col-by
 position-kept s st next i l b c = rw (l, b, c)
+
+-- a reader that asked for its own position stands where it stood
+pub stays : {s : Bytes} {st : State} {known : Cache} (here : Located) → Standing s st known → here ≡ located s st (st .offset) → Standing s st (here .known)
+stays {s} {st} here h e = rw e (record { stands = h .stands; cached = known-asked h (st .offset) (h .stands .sound .order) })

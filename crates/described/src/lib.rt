@@ -4,6 +4,7 @@
 // Proved: the length of a description is the definition's `length-of`; what bytes a description stands for is the
 // definition `bytes-of`, and those who answer a description prove that it describes the payload (`Describes`).
 // Assumed: nothing but what each function's `requires` says.
+pub mod places; // places.rt: where a reader stands after it reads on
 pub mod tokens; // tokens.rt: tokens and errors as readers answer them
 
 use definition::Item;

@@ -9,7 +9,9 @@ use definition::State;
 use positions::Cache;
 use positions::pos_of;
 ghost use mathlib.Core.Path.{_≡_};
+ghost use mathlib.Core.List.{[]};
 ghost use Rattle.definition.specs.Basics.{Bytes};
+ghost use Rattle.definition.specs.Position.{cur-pos};
 ghost use Rattle.definition.specs.State.{ended};
 ghost use Rattle.definition.specs.Item.{tok, lex-error};
 ghost use Rattle.described.specs.Described.{Describes, Known-at, Sized, Reads};
@@ -86,5 +88,24 @@ pub fn lex_error(
         extra,
         ended(st),
         here.known,
+    )
+}
+
+// An error without a payload, at the place where reading stopped.
+pub fn error_here(text: &[u8], name: &[u8], st: State, known: Cache, number: u32) -> Read
+    requires { ⌜ Standing (now text) st known ⌝ }
+    ensures { λ r. ⌜ ((f : Bytes) → Reads (now (text .entry)) (now (name .entry)) f (lex-error (now (text .entry)) st number [] (cur-pos (now (text .entry)) st) (cur-pos (now (text .entry)) st)) r) ⌝ }
+{
+    let here = pos_of(text, st, known, st.offset);
+    let nothing = Payload::Part { from: 0, to: 0 };
+    lex_error(
+        text,
+        name,
+        st,
+        here.known,
+        number,
+        nothing,
+        here.pos,
+        here.pos,
     )
 }

@@ -6,6 +6,7 @@ use text::sequence_at;
 ghost use mathlib.Core.Path.{_≡_};
 ghost use Rattle.definition.specs.Text.{star};
 ghost use Rattle.definition.specs.Matchers.{one};
+ghost use Rattle.definition.specs.Comment.{after};
 ghost use Rattle.scan.specs.Stops.{stops, goes-on};
 
 // Whether a character ends a run: it is a or b, or a line's end.
@@ -54,4 +55,14 @@ pub fn run_end(text: &[u8], a: u8, b: u8, i: usize) -> usize
         };
         j = k;
     }
+}
+
+// The offset after the character at i; i itself where none stands.
+pub fn after(text: &[u8], i: usize) -> usize
+    ensures { λ r. ⌜ r ≡ after (now (text .entry)) i ⌝ }
+{
+    let Sequence::Char(_, width) = sequence_at(text, i) else {
+        return i;
+    };
+    i + width
 }
