@@ -1,3 +1,4 @@
 pub mod Standing
 pub mod Building
 pub mod Turning
+pub mod Describing
