@@ -8,3 +8,4 @@ pub mod Refusals
 pub mod Endings
 pub mod Demand3
 pub mod Sizes
+pub mod Spending
