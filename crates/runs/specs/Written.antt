@@ -54,3 +54,5 @@ pub record Done (s name f : Bytes) (st : State) (rs : List ℕ) (ps : Bytes) (o 
   pub count : o .0 .count ≡ length ts
   pub stops : Stops s name f rs ps (length ts) (length (payloads-of ts)) (o .0 .state) (o .0 .stop)
   pub taken : (o .0 .refusal ≡ 0) × (o .0 .offset ≡ 0)
+  -- the payload bytes written, and so every word 6, are far below 2^32, whatever buffer was lent
+  pub small : length (payloads-of ts) ≤ 421527552
