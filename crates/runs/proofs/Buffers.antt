@@ -4,7 +4,7 @@ use Prim.Native.Nat.{ℕ, _+_, _*_}
 use mathlib.Core.Path.{_≡_, refl, sym, ap, ap₂, _∙_}
 use mathlib.Core.List.{List, [], _∷_, _++_, map, append-assoc, append-nil}
 use native.Mathlib.Omega.{arith}
-use native.Mathlib.Nat.{add-zero}
+use native.Mathlib.Nat.{add-zero, zero-add}
 use lib.ListN.{length, take, drop, length-append}
 use lib.Seq.{take-append-seam, drop-append-seam, drop-append-add, drop-drop, take-at, drop-at}
 use Rattle.definition.specs.Basics.{Bytes}
@@ -47,21 +47,68 @@ records-size used (t ∷ ts) =
     let rest = records-of (used + length (t .payload)) ts in
     omega (arith, length-append (words (t .item) used) rest, words-size (t .item) used, records-size (used + length (t .payload)) ts)
 
--- ---- one item more
+-- ---- some items and then others
 
-pub records-snoc : (used : ℕ) (ts : List Step) (t : Step) → records-of used (ts ++ (t ∷ [])) ≡ records-of used ts ++ words (t .item) (used + length (payloads-of ts))
+pub payloads-append : (ts us : List Step) → payloads-of (ts ++ us) ≡ payloads-of ts ++ payloads-of us
+unfolding payloads-of
+payloads-append [] us = refl
+payloads-append (t ∷ ts) us =
+    ap (λ (l : Bytes). t .payload ++ l) (payloads-append ts us) ∙ sym (append-assoc (t .payload) (payloads-of ts) (payloads-of us))
+
+pub records-append : (used : ℕ) (ts us : List Step) → records-of used (ts ++ us) ≡ records-of used ts ++ records-of (used + length (payloads-of ts)) us
 unfolding records-of payloads-of
-records-snoc used [] t = append-nil (words (t .item) used) ∙ ap (words (t .item)) (sym (add-zero used))
-records-snoc used (u ∷ ts) t =
-    let n = used + length (u .payload) in
-    let e : n + length (payloads-of ts) ≡ used + length (u .payload ++ payloads-of ts) = omega (arith, length-append (u .payload) (payloads-of ts)) in
-    ap (λ (l : List ℕ). words (u .item) used ++ l) (records-snoc n ts t ∙ ap (λ (k : ℕ). records-of n ts ++ words (t .item) k) e)
-    ∙ sym (append-assoc (words (u .item) used) (records-of n ts) (words (t .item) (used + length (u .payload ++ payloads-of ts))))
+records-append used [] us = ap (λ (n : ℕ). records-of n us) (sym (add-zero used))
+records-append used (t ∷ ts) us =
+    let n = used + length (t .payload) in
+    let e : n + length (payloads-of ts) ≡ used + length (t .payload ++ payloads-of ts) = omega (arith, length-append (t .payload) (payloads-of ts)) in
+    ap (λ (l : List ℕ). words (t .item) used ++ l) (records-append n ts us ∙ ap (λ (k : ℕ). records-of n ts ++ records-of k us) e)
+    ∙ sym (append-assoc (words (t .item) used) (records-of n ts) (records-of (used + length (t .payload ++ payloads-of ts)) us))
 
+-- one item more
 pub payloads-snoc : (ts : List Step) (t : Step) → payloads-of (ts ++ (t ∷ [])) ≡ payloads-of ts ++ t .payload
 unfolding payloads-of
-payloads-snoc [] t = append-nil (t .payload)
-payloads-snoc (u ∷ ts) t = ap (λ (l : Bytes). u .payload ++ l) (payloads-snoc ts t) ∙ sym (append-assoc (u .payload) (payloads-of ts) (t .payload))
+payloads-snoc ts t = payloads-append ts (t ∷ []) ∙ ap (λ (l : Bytes). payloads-of ts ++ l) (append-nil (t .payload))
+
+pub records-snoc : (used : ℕ) (ts : List Step) (t : Step) → records-of used (ts ++ (t ∷ [])) ≡ records-of used ts ++ words (t .item) (used + length (payloads-of ts))
+unfolding records-of
+records-snoc used ts t =
+    let n = used + length (payloads-of ts) in
+    records-append used ts (t ∷ []) ∙ ap (λ (l : List ℕ). records-of used ts ++ l) (append-nil (words (t .item) n))
+
+-- a part of a buffer that is written over
+over-part : (a b c l : List ℕ) → take (length b) (drop (length a) (over (a ++ (b ++ c)) l)) ≡ b
+unfolding over
+over-part a b c l =
+    let z = drop (length (a ++ (b ++ c))) l in
+    ap (λ (m : List ℕ). take (length b) (drop (length a) m)) (append-assoc a (b ++ c) z)
+    ∙ ap (take (length b)) (drop-append-seam a ((b ++ c) ++ z) ∙ append-assoc b c z)
+    ∙ take-append-seam b (c ++ z)
+
+-- what is behind
+pub over-rest : (vs l : List ℕ) → drop (length vs) (over vs l) ≡ drop (length vs) l
+unfolding over
+over-rest vs l = drop-append-seam vs (drop (length vs) l)
+
+-- one item among others
+module _ (before : List Step) (t : Step) (after : List Step) where
+  pub record-there : (rs : List ℕ) → take record-size (drop (record-size * length before) (over (records-of 0 (before ++ (t ∷ after))) rs)) ≡ words (t .item) (length (payloads-of before))
+  unfolding records-of
+  record-there rs =
+      let u = length (payloads-of before) in
+      let w = words (t .item) u in
+      let e : records-of 0 (before ++ (t ∷ after)) ≡ records-of 0 before ++ (w ++ records-of (u + length (t .payload)) after) =
+      rw zero-add at (records-append 0 before (t ∷ after))
+      in
+      ap (λ (l : List ℕ). take record-size (drop (record-size * length before) (over l rs))) e
+      ∙ ap₂ (λ (n k : ℕ). take n (drop k (over (records-of 0 before ++ (w ++ records-of (u + length (t .payload)) after)) rs)))
+      (sym (words-size (t .item) u)) (sym (records-size 0 before))
+      ∙ over-part (records-of 0 before) w (records-of (u + length (t .payload)) after) rs
+
+  pub payload-there : (ps : Bytes) → take (length (t .payload)) (drop (length (payloads-of before)) (over (payloads-of (before ++ (t ∷ after))) ps)) ≡ t .payload
+  unfolding payloads-of
+  payload-there ps =
+      ap (λ (l : Bytes). take (length (t .payload)) (drop (length (payloads-of before)) (over l ps))) (payloads-append before (t ∷ after))
+      ∙ over-part (payloads-of before) (t .payload) (payloads-of after) ps
 
 -- ---- the items are found again
 

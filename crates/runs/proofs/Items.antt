@@ -1,17 +1,19 @@
 -- The steps of a text from a state, one by one: how much fuel there is doesn't matter, and what some steps leave is the rest. Rests on the
 -- law that each step leaves less to read (crate `progress`).
-use Prim.Native.Nat.{ℕ, zero, suc, _<_}
+use Prim.Native.Nat.{ℕ, zero, suc, _≤_, _<_}
 use mathlib.Core.Path.{_≡_, refl, sym, ap, subst, _∙_}
 use mathlib.Core.Bool.{true, false}
 use mathlib.Core.List.{List, [], _∷_, _++_}
 use native.Mathlib.Omega.{arith}
 use lib.Dec.{eqb}
+use lib.ListN.{length}
 use borrow.Author.Tests.{eq-eqb, ne-eqb, eqb-true, eqb-false}
 use Rattle.definition.specs.Basics.{Bytes}
 use Rattle.definition.specs.Item.{Step}
 use Rattle.definition.specs.Token.{step}
+use Rattle.definition.specs.Run.{most-items}
 use Rattle.definition.specs.declared.State.{State}
-use Rattle.lemmas.proofs.Cases.{by-outcome}
+use Rattle.lemmas.proofs.Cases.{by-outcome, by-test}
 use Rattle.progress.proofs.Moves.{awake, awake-small, left, Opened}
 use Rattle.progress.proofs.Items.{step-gives}
 use Rattle.runs.specs.Items.{steps, steps-of, Steps}
@@ -50,6 +52,18 @@ module _ (s name f : Bytes) where
           steps-on n st e
           ∙ ap (λ (ts : List Step). step s name f st ∷ ts) (same (step s name f st .next) (l .0) (omega (arith, l .1)) (omega (arith, l .1)))
           ∙ sym (steps-on m st e))
+
+  -- there are never more than the fuel
+  steps-few : (n : ℕ) (st : State) → length (steps s name f n st) ≤ n
+  unfolding steps
+  steps-few zero st = omega arith
+  steps-few (suc n) st =
+      by-test (λ (ts : List Step). length ts ≤ suc n) (eqb (st .mode) 2) (λ _. omega arith) (λ _. omega (arith, steps-few n (step s name f st .next)))
+
+  -- So there are not more than a run's turns.
+  pub steps-of-few : (st : State) → length (steps-of s name f st) ≤ most-items s st
+  unfolding steps-of
+  steps-of-few st = steps-few (most-items s st) st
 
   -- At the end no items are left.
   pub steps-of-end : (st : State) → st .mode ≡ 2 → steps-of s name f st ≡ []

@@ -70,6 +70,7 @@ module _ (s name f : Bytes) (st : State) (rs : List ℕ) (ps : Bytes) where
   pub record Finished (o : Outcome) : Type 0 where
     pub done : Done s name f st rs ps o
     pub stands : Stands s (o .0 .state)
+    pub spent : length (payloads-of (done .ts)) + budget s (o .0 .state) ≤ budget s st
 
   -- it begins with nothing written
   going-starts : Stands s st → Going (record { state = st; records = rs; payload = ps; count = 0; used = 0 })
@@ -105,6 +106,7 @@ module _ (s name f : Bytes) (st : State) (rs : List ℕ) (ps : Bytes) where
         small = omega (arith, g .spent, g .used, budget-small s st h);
       };
       stands = g .stands;
+      spent = omega (arith, g .spent, g .used);
     }
 
     module _ (m : a .state .mode ≡ 2 → ⊥) where
