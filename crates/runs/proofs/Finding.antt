@@ -64,15 +64,9 @@ module _ (s name f : Bytes) where
         -- one more item would be one of the text's
         records-full : (b .mode ≡ 2 → ⊥) → stop ≡ 1 → ⊥
         records-full n q =
-            absurd
-            omega (
-              arith,
-              d .stops .records-full .0 q .1,
-              ap length (steps-then s name f st (d .ts) b opened (d .filled .steps)),
-              length-append (d .ts) (steps-of s name f b),
-              ap length (steps-of-on s name f b (e .stands .sound .opened) n),
-              steps-of-few s name f st,
-            )
+            let all = ap length (steps-then s name f st (d .ts) b opened (d .filled .steps)) in
+            let more = ap length (steps-of-on s name f b (e .stands .sound .opened) n) in
+            absurd (omega (arith, d .stops .records-full .0 q .1, all, length-append (d .ts) (steps-of s name f b), more, steps-of-few s name f st))
 
         -- its payload would be within the budget
         payload-full : (b .mode ≡ 2 → ⊥) → stop ≡ 2 → ⊥

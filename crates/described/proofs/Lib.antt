@@ -1,0 +1,3 @@
+pub mod Standing
+pub mod Building
+pub mod Turning
