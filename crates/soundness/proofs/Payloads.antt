@@ -38,11 +38,11 @@ use Rattle.progress.proofs.Walks.{Walk, Onward, walk-forward, walk-within}
 use Rattle.progress.proofs.Cuts.{no-comment-walks, no-comment-onward}
 use Rattle.progress.proofs.Choices.{Chosen, Fits, select-fits}
 use Rattle.progress.proofs.Rules.{file-place, file-line-place, texts-small, Shape, fixed-rule, text-rule, table-rule, file-rule, line-rule, file-line-rule, part-rule, number-rule, uint8-rule, bad-number-rule, char-rule, ident-rule, word-rule, kw-op-rule, gt-rule, op-rule, skip-rule, new-line-rule, string-rule, blob-rule, lang-rule, comment-rule, line-comment-rule, every-rule}
-use Rattle.soundness.specs.Budget.{budget}
+use Rattle.soundness.specs.Budget.{growth, most, budget}
 use Rattle.soundness.proofs.Moving.{stands-within}
 use Rattle.soundness.proofs.Steps.{token-turn-stands}
 use Rattle.soundness.proofs.Sizes.{part-size, find-small, entry-small, clean-size, line-size}
-use Rattle.soundness.proofs.Spending.{most, budget-most, most-budget, Pays, stops, error-pays, comment-pays, line-comment-pays, string-pays, blob-pays, lang-pays}
+use Rattle.soundness.proofs.Spending.{budget-most, most-budget, Pays, stops, error-pays, comment-pays, line-comment-pays, string-pays, blob-pays, lang-pays}
 
 -- ---- the words that stand for the name are long
 
@@ -72,8 +72,8 @@ module _ (s : Bytes) where
   Spends B = Leads (λ b. most s b ≤ B) (Pays s B)
 
   module _ (st : State) (e : ℕ) where
-    -- a token up to e, with 400 bytes at most for each that it reads
-    finish-pays : Onward s (st .offset) e → (text : Bytes) → length text ≤ 400 * (e - st .offset) → length text + budget s (advance st e) ≤ most s st
+    -- a token up to e, with so many bytes at most for each that it reads
+    finish-pays : Onward s (st .offset) e → (text : Bytes) → length text ≤ growth * (e - st .offset) → length text + budget s (advance st e) ≤ most s st
     finish-pays o text h = omega (arith, budget-most s (advance st e), o .past, o .within)
 
     -- the same with a small text
@@ -142,7 +142,7 @@ module _ (s : Bytes) where
 
     -- the name, the line, and both
     file-pays : (st : State) (e : ℕ) → Onward s (st .offset) e → st .offset + 12 ≤ e → st .line < 10000000
-        → length (name ++ (cps "(" ++ (show (st .line) ++ cps ")"))) ≤ 400 * (e - st .offset)
+        → length (name ++ (cps "(" ++ (show (st .line) ++ cps ")"))) ≤ growth * (e - st .offset)
     unfolding cps encode-all encode
     file-pays st e o h l =
         omega (

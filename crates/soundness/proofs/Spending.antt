@@ -31,29 +31,25 @@ use Rattle.progress.proofs.Ends.{Ends, ends-only}
 use Rattle.progress.proofs.Matches.{behind, byte-is-onward, newline-ends, escape-ends}
 use Rattle.progress.proofs.Words.{word-onward}
 use Rattle.progress.proofs.Comments.{after-walks, two-onward}
-use Rattle.soundness.specs.Budget.{budget}
+use Rattle.soundness.specs.Budget.{most, budget}
 use Rattle.soundness.proofs.Sizes.{part-size, trim-size}
 
 module _ (s : Bytes) where
-  -- what is left to spend while the reading goes on
-  abbrev pub most : State → ℕ
-  most st = 400 * (length s - st .offset) + 2 * st .depth
-
-  -- it is what is left in every state that has not ended, and at least that in the others
-  pub budget-most : (st : State) → budget s st ≤ most st
+  -- what is left to spend in a state that has not ended is at least what is left in any
+  pub budget-most : (st : State) → budget s st ≤ most s st
   unfolding budget
-  budget-most st = by-test (λ (n : ℕ). n ≤ most st) (eqb (st .mode) 2) (λ _. omega arith) (λ _. omega arith)
+  budget-most st = by-test (λ (n : ℕ). n ≤ most s st) (eqb (st .mode) 2) (λ _. omega arith) (λ _. omega arith)
 
-  pub most-budget : (st : State) → (st .mode ≡ 2 → ⊥) → most st ≤ budget s st
+  pub most-budget : (st : State) → (st .mode ≡ 2 → ⊥) → most s st ≤ budget s st
   unfolding budget
-  most-budget st n = by-test (λ (k : ℕ). most st ≤ k) (eqb (st .mode) 2) (λ t. absurd (n (eqb-true (st .mode) 2 t))) (λ _. omega arith)
+  most-budget st n = by-test (λ (k : ℕ). most s st ≤ k) (eqb (st .mode) 2) (λ t. absurd (n (eqb-true (st .mode) 2 t))) (λ _. omega arith)
 
   -- what is left behind an item, and its payload, are at most B
   abbrev pub Pays : ℕ → Step → Type 0
   Pays B t = length (t .payload) + budget s (t .next) ≤ B
 
   -- an item behind which the reading goes on
-  pub goes-on : {B : ℕ} (t : Step) → length (t .payload) + most (t .next) ≤ B → Pays B t
+  pub goes-on : {B : ℕ} (t : Step) → length (t .payload) + most s (t .next) ≤ B → Pays B t
   goes-on t h = omega (arith, budget-most (t .next))
 
   -- an item that ends the reading
@@ -64,15 +60,15 @@ module _ (s : Bytes) where
   -- ---- comments
 
   -- a piece from byte `from` up to i: the two bytes behind it are paid by the level that it leaves
-  piece-pays : {B : ℕ} (from i : ℕ) (closed : Bool) (st : State) → i ≤ length s → 1 ≤ st .depth → (i - from) + most st ≤ B
+  piece-pays : {B : ℕ} (from i : ℕ) (closed : Bool) (st : State) → i ≤ length s → 1 ≤ st .depth → (i - from) + most s st ≤ B
       → Pays B (terminate s from i closed st)
   unfolding close-comment cps encode-all encode
   piece-pays {B} from i closed st w d h =
       let l : length (terminate s from i closed st .payload) ≤ (i - from) + 2 =
       omega (arith, trim-size (st .comment .col) (lexeme s from i ++ cps "*)"), length-append (lexeme s from i) (cps "*)"), part-size s from i w)
       in
-      let c : most (close-comment st) + 2 ≤ most st =
-      by-lt (λ (b : State). most b + 2 ≤ most st) 1 (st .depth) (λ _. omega arith) (λ _. omega arith)
+      let c : most s (close-comment st) + 2 ≤ most s st =
+      by-lt (λ (b : State). most s b + 2 ≤ most s st) 1 (st .depth) (λ _. omega arith) (λ _. omega arith)
       in
       omega (arith, budget-most (close-comment st))
 
@@ -81,7 +77,7 @@ module _ (s : Bytes) where
     behind : from ≤ st .offset
     within : st .offset ≤ length s
     level : 1 ≤ st .depth
-    paid : (st .offset - from) + most st ≤ B
+    paid : (st .offset - from) + most s st ≤ B
 
   -- reading on in it
   piece-on : {from B : ℕ} {st : State} (b : State) → Piece from B st → Walk s (st .offset) (b .offset) → b .depth ≡ st .depth → Piece from B b
@@ -126,7 +122,7 @@ module _ (s : Bytes) where
       closing o = piece-pays from i true (advance st (i + 2)) (p .within) (p .level) (omega (arith, p .paid, o .within))
 
   -- A piece of a comment.
-  pub comment-pays : (from B : ℕ) (st : State) → from ≤ st .offset → st .offset ≤ length s → 1 ≤ st .depth → (st .offset - from) + most st ≤ B
+  pub comment-pays : (from B : ℕ) (st : State) → from ≤ st .offset → st .offset ≤ length s → 1 ≤ st .depth → (st .offset - from) + most s st ≤ B
       → Pays B (comment s from st)
   unfolding comment
   comment-pays from B st f w d h =
@@ -135,7 +131,7 @@ module _ (s : Bytes) where
       (record { behind = f; within = w; level = d; paid = h })
 
   -- A line's comment.
-  pub line-comment-pays : {B : ℕ} (pre : Bytes) (st : State) → st .offset ≤ length s → length pre + most st ≤ B → Pays B (line-comment s pre st)
+  pub line-comment-pays : {B : ℕ} (pre : Bytes) (st : State) → st .offset ≤ length s → length pre + most s st ≤ B → Pays B (line-comment s pre st)
   unfolding line-comment
   line-comment-pays pre st w h =
       let i = st .offset in
@@ -149,11 +145,11 @@ module _ (s : Bytes) where
   -- a string is read: what is read of it and what is left are at most B
   record Literal (B : ℕ) (a : State × Bytes) : Type 0 where
     within : a .0 .offset ≤ length s
-    paid : length (a .1) + most (a .0) ≤ B
+    paid : length (a .1) + most s (a .0) ≤ B
 
   -- reading on by a walk, and so many bytes more
   literal-on : {B : ℕ} (st b : State) (acc more : Bytes) → Literal B (st, acc) → Walk s (st .offset) (b .offset) → b .depth ≡ st .depth
-      → length more ≤ 400 * (b .offset - st .offset) → Literal B (b, acc ++ more)
+      → length more ≤ 4 * (b .offset - st .offset) → Literal B (b, acc ++ more)
   literal-on st b acc more p u d h =
       let w = walk-within u (p .within) in
       record { within = w; paid = omega (arith, p .paid, length-append acc more, walk-forward u, w) }
@@ -220,7 +216,7 @@ module _ (s : Bytes) where
       }
 
   -- A string.
-  pub string-pays : {B : ℕ} (f : Bytes) (sp : Pos) (st : State) → st .offset ≤ length s → most st ≤ B → Pays B (string-lit s f st sp)
+  pub string-pays : {B : ℕ} (f : Bytes) (sp : Pos) (st : State) → st .offset ≤ length s → most s st ≤ B → Pays B (string-lit s f st sp)
   unfolding string-lit
   string-pays {B} f sp st w h =
       loop-keeps (string-turn s f sp) (Literal B) (Pays B) (λ a. lex-error s (a .0) 1 [] (cur-pos s (a .0)) (cur-pos s (a .0))) (string-spends B f sp)
@@ -232,7 +228,7 @@ module _ (s : Bytes) where
     -- contents that began at byte `from` are read: name and contents, and what is left, are at most B
     record Contents (st : State) : Type 0 where
       within : st .offset ≤ length s
-      paid : length (h .name) + (st .offset - from) + most st ≤ B
+      paid : length (h .name) + (st .offset - from) + most s st ≤ B
 
     -- reading on
     contents-on : (st b : State) → Contents st → Walk s (st .offset) (b .offset) → b .depth ≡ st .depth → Contents b
@@ -273,7 +269,7 @@ module _ (s : Bytes) where
         i : ℕ
         i = st .offset
 
-  module _ {B : ℕ} (h : Header) (st : State) (w : st .offset ≤ length s) (p : length (h .name) + most st ≤ B) where
+  module _ {B : ℕ} (h : Header) (st : State) (w : st .offset ≤ length s) (p : length (h .name) + most s st ≤ B) where
     -- A blob.
     pub blob-pays : Pays B (blob s h st)
     unfolding blob
