@@ -40,6 +40,7 @@ words-size t used = omega (arith, go (t .extra))
     go (LexError n p q) = refl
     go (Comment b) = refl
 
+-- so are those of some items, each
 pub records-size : (used : ℕ) (ts : List Step) → length (records-of used ts) ≡ record-size * length ts
 unfolding records-of
 records-size used [] = refl
@@ -49,12 +50,14 @@ records-size used (t ∷ ts) =
 
 -- ---- some items and then others
 
+-- payloads
 pub payloads-append : (ts us : List Step) → payloads-of (ts ++ us) ≡ payloads-of ts ++ payloads-of us
 unfolding payloads-of
 payloads-append [] us = refl
 payloads-append (t ∷ ts) us =
     ap (λ (l : Bytes). t .payload ++ l) (payloads-append ts us) ∙ sym (append-assoc (t .payload) (payloads-of ts) (payloads-of us))
 
+-- records: the others begin behind the first payloads
 pub records-append : (used : ℕ) (ts us : List Step) → records-of used (ts ++ us) ≡ records-of used ts ++ records-of (used + length (payloads-of ts)) us
 unfolding records-of payloads-of
 records-append used [] us = ap (λ (n : ℕ). records-of n us) (sym (add-zero used))
@@ -69,6 +72,7 @@ pub payloads-snoc : (ts : List Step) (t : Step) → payloads-of (ts ++ (t ∷ []
 unfolding payloads-of
 payloads-snoc ts t = payloads-append ts (t ∷ []) ∙ ap (λ (l : Bytes). payloads-of ts ++ l) (append-nil (t .payload))
 
+-- its record
 pub records-snoc : (used : ℕ) (ts : List Step) (t : Step) → records-of used (ts ++ (t ∷ [])) ≡ records-of used ts ++ words (t .item) (used + length (payloads-of ts))
 unfolding records-of
 records-snoc used ts t =
@@ -91,6 +95,7 @@ over-rest vs l = drop-append-seam vs (drop (length vs) l)
 
 -- one item among others
 module _ (before : List Step) (t : Step) (after : List Step) where
+  -- its record
   pub record-there : (rs : List ℕ) → take record-size (drop (record-size * length before) (over (records-of 0 (before ++ (t ∷ after))) rs)) ≡ words (t .item) (length (payloads-of before))
   unfolding records-of
   record-there rs =
@@ -104,6 +109,7 @@ module _ (before : List Step) (t : Step) (after : List Step) where
       (sym (words-size (t .item) u)) (sym (records-size 0 before))
       ∙ over-part (records-of 0 before) w (records-of (u + length (t .payload)) after) rs
 
+  -- its payload
   pub payload-there : (ps : Bytes) → take (length (t .payload)) (drop (length (payloads-of before)) (over (payloads-of (before ++ (t ∷ after))) ps)) ≡ t .payload
   unfolding payloads-of
   payload-there ps =

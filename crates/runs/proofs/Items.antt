@@ -26,12 +26,13 @@ module _ (s name f : Bytes) where
       let w : awake (st .mode) ≡ 1 = ap (λ t. elim t as (λ _. ℕ) [ true ↦ 0 | false ↦ 1 ]) (ne-eqb (st .mode) 2 n) in
       (g .opened o, omega (arith, g .less, w))
 
-  -- the two cases of a step more
+  -- at the end there are none
   steps-end : (n : ℕ) (st : State) → st .mode ≡ 2 → steps s name f n st ≡ []
   unfolding steps
   steps-end zero st m = refl
   steps-end (suc n) st m = simp (eq-eqb (st .mode) 2 m, steps)
 
+  -- before it the next step is the first
   steps-on : (n : ℕ) (st : State) → (st .mode ≡ 2 → ⊥) → steps s name f (suc n) st ≡ step s name f st ∷ steps s name f n (step s name f st .next)
   unfolding steps
   steps-on n st m = simp (ne-eqb (st .mode) 2 m, steps)

@@ -37,9 +37,11 @@ module _ (s name f : Bytes) where
         by-test (λ (o : Outcome). o ≡ (refused (refusal s name f st) st, rs, ps)) (eqb (refusal s name f st .0) 0) (λ t. absurd (n (eqb-true _ 0 t))) (λ _. refl)
 
     module _ (taken : refusal s name f st .0 ≡ 0) where
+      -- what the run answers and leaves
       abbrev o : Outcome
       o = run s name f st rs ps
 
+      -- what is known of it
       abbrev end : Finished s name f st rs ps (run s name f st rs ps)
       end = run-finished s name f st rs ps taken
 

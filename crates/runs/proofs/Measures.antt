@@ -37,6 +37,7 @@ use Rattle.runs.proofs.Buffers.{Measured}
 
 -- ---- tokens and blobs
 
+-- what an item has besides is no blob
 abbrev no-blob : Extra → Bool
 no-blob NoExtra = true
 no-blob (CharLit c) = true
@@ -70,9 +71,11 @@ Measures = Leads Any Measured
 module _ (s : Bytes) where
   -- ---- readers
 
+  -- a piece of a comment that ends at i
   piece-measured : (from i : ℕ) (closed : Bool) (st : State) → Measured (terminate s from i closed st)
   piece-measured from i closed st = tok-measured _ _ _ _ (Comment closed) _ refl
 
+  -- a piece of a comment
   comment-measured : (from : ℕ) (st : State) → Measured (comment s from st)
   unfolding comment
   comment-measured from st =
@@ -90,10 +93,12 @@ module _ (s : Bytes) where
           i : ℕ
           i = a .offset
 
+  -- a line's comment
   line-comment-measured : (pre : Bytes) (st : State) → Measured (line-comment s pre st)
   unfolding line-comment
   line-comment-measured pre st = tok-measured _ _ _ _ (Comment true) _ refl
 
+  -- a string
   string-measured : (f : Bytes) (sp : Pos) (st : State) → Measured (string-lit s f st sp)
   unfolding string-lit escape-turn
   string-measured f sp st =
@@ -117,6 +122,7 @@ module _ (s : Bytes) where
           i = a .0 .offset
 
   module _ (h : Header) where
+    -- a blob
     a-blob-measured : (st : State) → Measured (blob s h st)
     unfolding blob
     a-blob-measured st =
@@ -128,6 +134,7 @@ module _ (s : Bytes) where
             by-le Measures (length s) (a .offset) (λ _. error-measured s a 2 [] _ _) λ _.
             by-match Measures (match-newline s (a .offset)) (λ nl _. tt) (λ _. tt)
 
+    -- what `use_lang` reads
     lang-measured : (st : State) → Measured (use-lang s h st)
     unfolding use-lang
     lang-measured st =
@@ -141,9 +148,11 @@ module _ (s : Bytes) where
 
   -- ---- rules
 
+  -- a token up to e
   finish-measured : (st : State) (e k : ℕ) (text : Bytes) → Measures (finish s st e k text)
   finish-measured st e k text = tok-measured k text _ _ NoExtra _ refl
 
+  -- a token that its word decides
   word-measured : (st : State) (e : ℕ) (table : List Entry) (k : String) → Measures (finish-word s st e table k)
   word-measured st e table k = go (find (lexeme s (st .offset) e) table)
     where
@@ -151,22 +160,26 @@ module _ (s : Bytes) where
       go (some y) = finish-measured st e (kind (y .1)) (cps (y .2))
       go none = finish-measured st e (kind k) (lexeme s (st .offset) e)
 
+  -- an identifier, unless its prefix is reserved
   ident-measured : (st : State) (e : ℕ) → Measures (ident s st e)
   ident-measured st e =
       by-test Measures (starts-with (lexeme s (st .offset) e) reserved-prefix)
       (λ _. error-measured s st 3 [] (cur-pos s st) (pos-of s st e)) (λ _. word-measured st e keywords "IDENT")
 
+  -- a number of a byte, unless it is too big
   uint8-measured : (st : State) (e : ℕ) → Measures (uint8 s st e)
   uint8-measured st e =
       by-lt Measures 255 (int-of-string (clean-number (lexeme s (st .offset) e)))
       (λ _. error-measured s st 4 [] (cur-pos s st) (pos-of s st e)) (λ _. finish-measured st e (kind "UINT8") (clean-number (lexeme s (st .offset) e)))
 
+  -- an operator, or a line's comment
   op-measured : (st : State) (e : ℕ) (k : String) → Measures (op s st e k)
   op-measured st e k =
       let e′ = no-comment s (st .offset) e in
       by-test Measures (eqb e′ (st .offset)) (λ _. line-comment-measured [] st) (λ _. finish-measured st e′ (kind k) (lexeme s (st .offset) e′))
 
   module _ (name f : Bytes) where
+    -- what a place does
     abbrev Does : ℕ → Rule → Type 0
     Does k r = (st : State) (e w : ℕ) → Measures (r st e w)
 
@@ -196,19 +209,23 @@ module _ (s : Bytes) where
     shape-measured k r comment-rule st e w = comment-measured (st .offset) (open-comment (advance st e) (cur-pos s st))
     shape-measured k r line-comment-rule st e w = line-comment-measured (lexeme s (st .offset) e) (advance st e)
 
+    -- an unexpected character
     any-measured : (st : State) → Measures (any s st)
     any-measured st = error-measured s st 6 [] (cur-pos s st) (cur-pos s st)
 
+    -- what is done with a choice
     act-measured : (st : State) (c : Choice) → Measures (act s name f st c)
     unfolding act
     act-measured st c = by-test Measures (eqb (c .place) 0) (λ _. any-measured st) λ t.
         every-rule s name f Does shape-measured (λ k st e w. any-measured st) (c .place) t st (c .end) (c .word)
 
+    -- a turn of `next-token`
     token-turn-measured : (st : State) → Measures (token-turn s name f st)
     unfolding token-turn
     token-turn-measured st =
         by-le Measures (length s) (st .offset) (λ _. tok-measured _ [] _ _ NoExtra _ refl) (λ _. act-measured st (select s f (st .offset)))
 
+    -- the next token
     next-token-measured : (st : State) → Measured (next-token s name f st)
     unfolding next-token
     next-token-measured st =

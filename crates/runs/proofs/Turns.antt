@@ -29,6 +29,7 @@ use Rattle.runs.proofs.Buffers.{put-over, records-size, records-snoc, p
 module _ (s name f : Bytes) (rs : List ℕ) (ps : Bytes) (n used : ℕ) (b : State) where
   -- ---- the three reasons to stop
 
+  -- the end
   stops-end : b .mode ≡ 2 → Stops s name f rs ps n used b 0
   stops-end m = record {
     at-end = (λ _. m, λ _. refl);
@@ -38,6 +39,7 @@ module _ (s name f : Bytes) (rs : List ℕ) (ps : Bytes) (n used : ℕ) (b : Sta
   }
 
   module _ (m : b .mode ≡ 2 → ⊥) where
+    -- no room for a record
     stops-records : length rs - record-size * n < record-size → Stops s name f rs ps n used b 1
     stops-records h = record {
       at-end = (λ q. absurd (omega arith), λ q. absurd (m q));
@@ -46,6 +48,7 @@ module _ (s name f : Bytes) (rs : List ℕ) (ps : Bytes) (n used : ℕ) (b : Sta
       one-of = omega arith;
     }
 
+    -- room for a record, and none for its payload
     stops-payload : record-size ≤ length rs - record-size * n → length ps - used < length (step s name f b .payload) → Stops s name f rs ps n used b 2
     stops-payload h l = record {
       at-end = (λ q. absurd (omega arith), λ q. absurd (m q));
@@ -91,6 +94,7 @@ module _ (s name f : Bytes) (st : State) (rs : List ℕ) (ps : Bytes) where
         let q = g .filled in
         ap length (q .records) ∙ length-over (records-of 0 (g .ts)) rs (omega (arith, records-size 0 (g .ts), q .records-fit))
 
+    -- the payload's too
     payload-length : length (a .payload) ≡ length ps
     payload-length = let q = g .filled in ap length (q .payload) ∙ length-over (payloads-of (g .ts)) ps (q .payload-fits)
 
@@ -110,9 +114,11 @@ module _ (s name f : Bytes) (st : State) (rs : List ℕ) (ps : Bytes) where
     }
 
     module _ (m : a .state .mode ≡ 2 → ⊥) where
+      -- the next item
       abbrev t : Step
       t = step s name f (a .state)
 
+      -- with it
       abbrev ts′ : List Step
       ts′ = g .ts ++ (t ∷ [])
 
@@ -127,6 +133,7 @@ module _ (s name f : Bytes) (st : State) (rs : List ℕ) (ps : Bytes) where
           ∙ put-over vs (words (t .item) (0 + length (payloads-of (g .ts)))) rs
           ∙ ap (λ (l : List ℕ). over l rs) (sym (records-snoc 0 (g .ts) t))
 
+      -- the payload's
       payload-written : put (a .payload) (a .used) (t .payload) ≡ over (payloads-of ts′) ps
       payload-written =
           let vs = payloads-of (g .ts) in
@@ -163,6 +170,7 @@ module _ (s name f : Bytes) (st : State) (rs : List ℕ) (ps : Bytes) where
   -- ---- the turns
 
   module _ (named : length name ≤ 4096) (h : Stands s st) where
+    -- what a turn may say
     abbrev L : Writing → Turn Writing Outcome → Type 0
     L a = Leads (λ b. Going b × (left s (b .state) < left s (a .state))) Finished
 

@@ -18,6 +18,7 @@ use Rattle.definition.specs.declared.State.{State}
 abbrev pub Told : Type 0
 Told = List ℕ × Bytes
 
+-- a record without word 6
 abbrev pub without-6 : List ℕ → List ℕ
 without-6 r = take 6 r ++ drop 7 r
 
@@ -40,6 +41,7 @@ steps s name f (suc n) st =
 unfoldable pub steps-of : Bytes → Bytes → Bytes → State → List Step
 steps-of s name f st = steps s name f (most-items s st) st
 
+-- the items, as they are compared
 abbrev pub items-of : Bytes → Bytes → Bytes → State → List Told
 items-of s name f st = map told (steps-of s name f st)
 

@@ -62,6 +62,7 @@ file-size : (s f : Bytes) (i e : ℕ) → Permitted s f file-place i e → i + 1
 unfolding pattern patterns encode-all encode
 file-size s f i e p = omega (arith, permitted-size (codes "__SOURCE_FILE__") s i e p)
 
+-- the other of the two
 file-line-size : (s f : Bytes) (i e : ℕ) → Permitted s f file-line-place i e → i + 12 ≤ e
 unfolding pattern patterns encode-all encode
 file-line-size s f i e p = omega (arith, permitted-size (codes "__FILELINE__") s i e p)
@@ -164,6 +165,7 @@ module _ (s : Bytes) where
         let w : e′ ≤ length s = walk-within u (omega (arith, o .past, o .within)) in
         omega (arith, part-size s (i + n) e′ w, budget-most s (advance st e′), walk-forward u)
 
+    -- what is cut off a `>`, which the payload has too
     gt-pays : (st : State) (e : ℕ) → Onward s (st .offset) e
         → length (ch ">" ∷ lexeme s (st .offset + 1) (no-comment s (st .offset + 1) e)) + budget s (advance st (no-comment s (st .offset + 1) e)) ≤ most s st
     gt-pays st e o =

@@ -35,11 +35,12 @@ use Rattle.soundness.specs.Budget.{most, budget}
 use Rattle.soundness.proofs.Sizes.{part-size, trim-size}
 
 module _ (s : Bytes) where
-  -- what is left to spend in a state that has not ended is at least what is left in any
+  -- never more than `most` is left to spend
   pub budget-most : (st : State) → budget s st ≤ most s st
   unfolding budget
   budget-most st = by-test (λ (n : ℕ). n ≤ most s st) (eqb (st .mode) 2) (λ _. omega arith) (λ _. omega arith)
 
+  -- and no less until the reading has ended
   pub most-budget : (st : State) → (st .mode ≡ 2 → ⊥) → most s st ≤ budget s st
   unfolding budget
   most-budget st n = by-test (λ (k : ℕ). most s st ≤ k) (eqb (st .mode) 2) (λ t. absurd (n (eqb-true (st .mode) 2 t))) (λ _. omega arith)
@@ -118,6 +119,7 @@ module _ (s : Bytes) where
         paid = omega (arith, p .paid, p .behind, o .within);
       }
 
+      -- a closing reads its two bytes
       closing : Onward s i (i + 2) → Pays B (terminate s from i true (advance st (i + 2)))
       closing o = piece-pays from i true (advance st (i + 2)) (p .within) (p .level) (omega (arith, p .paid, o .within))
 
@@ -206,9 +208,11 @@ module _ (s : Bytes) where
       escaped : (e : ℕ) → Onward s i e → Literal B (advance st e, acc ++ encode (unescape s i))
       escaped e o = literal-on st (advance st e) acc (encode (unescape s i)) p (o .walk) refl (omega (arith, encode-size (unescape s i) .1, o .past))
 
+      -- the quote that ends it
       quoted : Onward s i (i + 1) → length acc + budget s (advance st (i + 1)) ≤ B
       quoted o = omega (arith, p .paid, o .within, budget-most (advance st (i + 1)))
 
+      -- a backslash that makes no escape
       lone : i < length s → Literal B (advance st (i + 1), acc ++ lexeme s i (i + 1))
       lone h = record {
         within = omega arith;
@@ -250,6 +254,7 @@ module _ (s : Bytes) where
         i : ℕ
         i = st .offset
 
+        -- a closing reads its two bytes
         closing : (e : ℕ) → Onward s i e → length (h .name ++ lexeme s from i) + budget s (advance st e) ≤ B
         closing e o =
             omega (arith, p .paid, length-append (h .name) (lexeme s from i), part-size s from i (p .within), budget-most (advance st e), o .past, o .within)
