@@ -163,10 +163,11 @@ pub record Reading (s : Bytes) (header : Header) (lang : Bool) (from : ℕ) (fir
   pub inside : InBlob s header from here
   pub same : contents-from s lang from (header-of s header) (here .st) ≡ contents s lang (header-of s header) (first .st)
 
-module _ {s : Bytes} {header : Header} {lang : Bool} {from : ℕ} {first here : Place} where
-  pub reading-starts : InBlob s header (first .st .offset) first → Reading s header lang (first .st .offset) first first
-  reading-starts h = record { inside = h; same = sym (contents-is s lang (header-of s header) (first .st)) }
+pub reading-starts : {s : Bytes} {header : Header} {lang : Bool} {first : Place} → InBlob s header (first .st .offset) first
+    → Reading s header lang (first .st .offset) first first
+reading-starts {s} {header} {lang} {first} h = record { inside = h; same = sym (contents-is s lang (header-of s header) (first .st)) }
 
+module _ {s : Bytes} {header : Header} {lang : Bool} {from : ℕ} {first here : Place} where
   module _ (k : Reading s header lang from first here) (name f : Bytes) where
     -- what a turn has read is the whole
     pub reading-ends : (r : Read) → Turns s name f (contents-turn s lang from (header-of s header) (here .st)) (Done r)
@@ -183,10 +184,9 @@ module _ {s : Bytes} {header : Header} {lang : Bool} {from : ℕ} {first here : 
         let stands = k .inside .standing .stands in
         let u = contents-unroll s lang from (header-of s header) (here .st) stands in
         let g = turned-again s name f (λ b. (Stands s b × (b .mode ≡ 0)) × (rest s (b .offset) < rest s (here .st .offset))) Any
-            (contents-turn s lang from (header-of s header) (here .st)) (contents-from s lang from (header-of s header)) p
-            (turn-leads s from (header-of s header) (here .st) lang stands (k .inside .between)) t in
-        let less : rest s (p .st .offset) < rest s (here .st .offset) = g .holds .1 in
-        (
+        (contents-turn s lang from (header-of s header) (here .st)) (contents-from s lang from (header-of s header)) p
+        (turn-leads s from (header-of s header) (here .st) lang stands (k .inside .between)) t in
+        let less : rest s (p .st .offset) < rest s (here .st .offset) = g .holds .1 in (
           record {
             inside = record {
               standing = record { stands = g .holds .0 .0; cached = g .known };
@@ -196,5 +196,5 @@ module _ {s : Bytes} {header : Header} {lang : Bool} {from : ℕ} {first here : 
             };
             same = sym (g .same) ∙ sym u ∙ k .same;
           },
-          less
+          less,
         )

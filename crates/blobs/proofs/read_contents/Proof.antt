@@ -1,6 +1,5 @@
 -- The invariant is `Reading`: what is still to be read gives what the whole gives. The measure is what is left of the text.
 use Prim.Native.Nat.{_-_}
-use mathlib.Core.Path.{subst}
 use mathlib.Core.List.{[]}
 use lib.ListN.{length}
 use Rattle.blobs.proofs.TurnLaws.{Reading, reading-starts, reading-goes-on, reading-ends}
@@ -27,16 +26,22 @@ enum-known-r : tie.Need-enum-known-r Inv-loop μ-loop
 enum-known-r c = search needs
 
 returns : tie.Need-returns Inv-loop μ-loop
-returns c = ?
+returns c =
+    let d = c .before .before .before in
+    λ f. reading-ends (d .before .loop .inv) _ f _ (rw (c .before .r .given .1) at (d .turn .ensures f))
 
 enum-known-next : tie.Need-enum-known-next Inv-loop μ-loop
 enum-known-next c = search needs
 
 loop-less : tie.Need-loop-less Inv-loop μ-loop
-loop-less c = ?
+loop-less c =
+    let d = c .before .before .before in
+    reading-goes-on (d .before .loop .inv) _ [] _ (rw (c .before .next .given .1) at (d .turn .ensures [])) .1
 
 loop-again : tie.Need-loop-again Inv-loop μ-loop
-loop-again c = ?
+loop-again c =
+    let d = c .before .before .before in
+    reading-goes-on (d .before .loop .inv) _ [] _ (rw (c .before .next .given .1) at (d .turn .ensures [])) .0
 
 pub read-contents-spec : {M : Type 1} → statement M
 read-contents-spec =
