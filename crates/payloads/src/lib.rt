@@ -4,11 +4,7 @@
 // Assumed: nothing but what each function's `requires` says: the description is right for the text, and the buffer has
 // room for its bytes.
 use described::span;
-use described::Payload;
-use entries::text_into;
 use numerals::show_into;
-use strings::write_literal;
-use trim::write_trimmed;
 ghost use mathlib.Core.Path.{_≡_};
 ghost use mathlib.Core.List.{_∷_, _++_};
 ghost use Prim.Native.Nat.{_+_, _-_, _≤_};
@@ -18,8 +14,6 @@ ghost use Rattle.definition.specs.Basics.{ch};
 ghost use Rattle.definition.specs.Tables.{cps};
 ghost use Rattle.definition.specs.Numbers.{show};
 ghost use Rattle.lemmas.specs.Over.{over};
-ghost use Rattle.described.specs.Described.{bytes-of};
-ghost use Rattle.payloads.specs.Writable.{Writable};
 
 // Writes a part of some bytes.
 fn write_part(bytes: &[u8], from: usize, to: usize, out: &mut [u8])
