@@ -1,0 +1,5 @@
+pub mod Chains
+pub mod First
+pub mod Standing
+pub mod Groups
+pub mod BeyondAscii

@@ -1,0 +1,123 @@
+// The choice at an offset: the longest part that one of the 50 places permits there, ties going to the earlier place. The
+// first character decides which places are tried: no place is tried that can't begin with it.
+//
+// Proved: `select` is the definition's `select`, at any offset of any bytes. The laws behind it (in proofs/): a place whose
+// pattern can't begin with the character finds nothing (First), and which places may begin with which characters (Groups,
+// BeyondAscii).
+// Assumed: nothing but what `select`'s `requires` says: a class file that `class_check` accepts, and the tables of operator
+// and of symbol characters.
+pub mod beyond; // beyond.rt: characters beyond ASCII
+pub mod choice; // choice.rt: the choice of one place, by itself and after others
+pub mod digits; // digits.rt: numbers
+pub mod letters; // letters.rt: names, and what else begins with a letter
+pub mod operators; // operators.rt: operators and brackets
+pub mod quotes; // quotes.rt: the three quotes
+
+use crate::beyond::at_beyond_ascii;
+use crate::choice::found;
+use crate::digits::at_digit;
+use crate::letters::at_capital;
+use crate::letters::at_early_letter;
+use crate::letters::at_keyword_letter;
+use crate::letters::at_letter;
+use crate::letters::at_token_letter;
+use crate::letters::at_underscore;
+use crate::operators::at_bar;
+use crate::operators::at_hash;
+use crate::operators::at_less;
+use crate::operators::at_operator;
+use crate::operators::at_paren;
+use crate::operators::at_percent;
+use crate::operators::at_point;
+use crate::operators::at_semicolon;
+use crate::operators::at_slash;
+use crate::operators::at_star;
+use crate::operators::at_token;
+use crate::operators::at_token_operator;
+use crate::quotes::at_backtick;
+use crate::quotes::at_double_quote;
+use crate::quotes::at_quote;
+use chars::is_constructor_start;
+use chars::is_digit;
+use chars::is_ident_start;
+use definition::Choice;
+use definition::Sequence;
+use matchers::names::match_newline;
+use scan::runs::plus_anywhite;
+use text::sequence_at;
+use words::nothing;
+ghost use mathlib.Core.Path.{_≡_};
+ghost use Prim.Native.Nat.{_<_};
+ghost use lib.ListN.{length};
+ghost use Rattle.definition.specs.ClassFile.{class-check};
+ghost use Rattle.definition.specs.Chars.{ascii-table, op-char-cps, symbolchar-cps};
+ghost use Rattle.definition.specs.Select.{select};
+ghost use Rattle.select.specs.Groups.{Lent, Ascii, Other};
+
+// A character of ASCII with which no operator, no quote and no keyword begins: a letter, a digit, or none of the 50 places.
+fn at_other(text: &[u8], file: &[u8], c: u32, i: usize) -> Choice
+    requires { ⌜ (class-check (now file) ≡ 0) × Other (now text) i c ⌝ }
+    ensures { λ r. ⌜ r ≡ select (now (text .entry)) (now (file .entry)) i ⌝ }
+{
+    if is_ident_start(c) {
+        return at_letter(text, file, i);
+    }
+    if is_constructor_start(file, c) {
+        return at_capital(text, file, i);
+    }
+    if is_digit(c) {
+        return at_digit(text, file, i);
+    }
+    nothing(i)
+}
+
+// A character of ASCII.
+fn at_ascii(text: &[u8], file: &[u8], ops: &[bool; 128], symbols: &[bool; 128], c: u8, i: usize) -> Choice
+    requires { ⌜ Lent (now file) (now ops) (now symbols) × Ascii (now text) i c ⌝ }
+    ensures { λ r. ⌜ r ≡ select (now (text .entry)) (now (file .entry)) i ⌝ }
+{
+    match c {
+        b'\t' | 11 | 12 | b' ' => found(i, 7, plus_anywhite(text, file, i)),
+        b'\n' | b'\r' => found(i, 8, match_newline(text, i)),
+        b's' => at_early_letter(text, file, i),
+        b'a' | b'e' | b'f' | b'i' | b'l' | b'm' => at_keyword_letter(text, file, ops, i),
+        b'r' | b'u' => at_token_letter(text, file, i),
+        b'_' => at_underscore(text, file, i),
+        b'\'' => at_quote(text, file, i),
+        b'`' => at_backtick(text, file, i),
+        b'"' => at_double_quote(text, i),
+        b'#' => at_hash(text, file, i),
+        b'%' => at_percent(text, symbols, i),
+        b';' => at_semicolon(text, ops, i),
+        b'(' => at_paren(text, i),
+        b'/' => at_slash(text, symbols, i),
+        b'<' => at_less(text, symbols, i),
+        b'|' => at_bar(text, symbols, i),
+        b'.' => at_point(text, i),
+        b'*' => at_star(text, symbols, i),
+        b'>' => at_operator(text, symbols, i, 38),
+        b'@' | b'^' => at_operator(text, symbols, i, 46),
+        b'+' => at_operator(text, symbols, i, 47),
+        b'!' | b'?' | b'~' => at_token_operator(text, symbols, i, 41),
+        b'&' => at_token_operator(text, symbols, i, 43),
+        b'=' => at_token_operator(text, symbols, i, 44),
+        b'$' => at_token_operator(text, symbols, i, 45),
+        b'-' => at_token_operator(text, symbols, i, 47),
+        b')' | b',' | b':' | b'[' | b'\\' | b']' | b'{' | b'}' => at_token(text, i),
+        _ => at_other(text, file, c as u32, i),
+    }
+}
+
+// What is chosen at i.
+pub fn select(text: &[u8], file: &[u8], ops: &[bool; 128], symbols: &[bool; 128], i: usize) -> Choice
+    requires { ⌜ Lent (now file) (now ops) (now symbols) ⌝ }
+    ensures { λ r. ⌜ r ≡ select (now (text .entry)) (now (file .entry)) i ⌝ }
+{
+    let Sequence::Char(c, width) = sequence_at(text, i) else {
+        return nothing(i);
+    };
+    if 128 <= c {
+        return at_beyond_ascii(text, file, ops, i, c, i + width);
+    }
+    at_ascii(text, file, ops, symbols, c as u8, i)
+}
