@@ -77,6 +77,11 @@ module _ (s f : Bytes) (i c w : ℕ) (q : sequence-at s i ≡ Char c w) where
   unfolding among places try-all mem-cp plus match-ident match-constructor
   beyond-ascii h =
       select-among s f i (7 ∷ 8 ∷ 12 ∷ 14 ∷ 15 ∷ 49 ∷ []) c w q (six-places c h f)
-      ∙ rw (has-read (leb ascii-limit) s i c w q ∙ le-leb ascii-limit c h,
-      run (is-anywhite f) (is-anywhite f), newline h, run is-ident-start (is-ident-char f), run (is-constructor-start f) (is-ident-char f),
-      one-read (is-uoperator f) s i c w q)
+      ∙ rw (
+        has-read (leb ascii-limit) s i c w q ∙ le-leb ascii-limit c h,
+        run (is-anywhite f) (is-anywhite f),
+        newline h,
+        run is-ident-start (is-ident-char f),
+        run (is-constructor-start f) (is-ident-char f),
+        one-read (is-uoperator f) s i c w q,
+      )

@@ -11,7 +11,9 @@ use borrow.Author.Tests.{le-ltb, not-true}
 use Rattle.definition.specs.Basics.{Bytes, mem-cp}
 use Rattle.definition.specs.Utf8.{sequence-at}
 use Rattle.definition.specs.Text.{char-has}
-use Rattle.definition.specs.Select.{none-at, keep, try-all, places, select}
+use Rattle.definition.specs.Chars.{is-anywhite}
+use Rattle.definition.specs.Matchers.{plus, match-newline}
+use Rattle.definition.specs.Select.{none-at, keep, found, try-all, places, select}
 use Rattle.definition.specs.Regex.{Re, never}
 use Rattle.definition.specs.Patterns.{patterns, pattern}
 use Rattle.definition.specs.declared.Choice.{Choice}
@@ -98,6 +100,18 @@ module _ (s f : Bytes) (i : ℕ) where
       (λ k p a m. let z : 0 + k ≡ k = omega arith in
       finds-none h c w q k p a (others-not ks 0 (never ∷ patterns f) c t k (ap (λ x. mem-cp x ks) z ∙ m)))
       (all-places s f i (numbers s f i)) (none-at i) (omega arith)
+
+  -- The fast path of white space,
+  pub white-path : char-has white-fast s i ≡ true → select s f i ≡ found i 7 0 (plus (is-anywhite f) s i)
+  unfolding select
+  white-path t = by-test (λ (x : Choice). x ≡ found i 7 0 (plus (is-anywhite f) s i)) (char-has white-fast s i) (λ _. refl) (λ e. absurd (false≢true (sym e ∙ t)))
+
+  -- and that of line ends.
+  pub line-path : char-has white-fast s i ≡ false → char-has line-fast s i ≡ true → select s f i ≡ found i 8 0 (match-newline s i)
+  unfolding select
+  line-path n t =
+      by-test (λ (x : Choice). x ≡ found i 8 0 (match-newline s i)) (char-has white-fast s i) (λ e. absurd (false≢true (sym n ∙ e))) λ _.
+      by-test (λ (x : Choice). x ≡ found i 8 0 (match-newline s i)) (char-has line-fast s i) (λ _. refl) (λ e. absurd (false≢true (sym e ∙ t)))
 
   -- Where no character stands, no place finds anything.
   pub select-none : No-char (sequence-at s i) → select s f i ≡ none-at i

@@ -7,8 +7,10 @@ use lib.Dec.{eqb}
 use Rattle.definition.specs.Basics.{Bytes, ch, codes, mem-cp}
 use Rattle.definition.specs.Chars.{count-up, ascii-table, in-table, is-digit, is-op-char, is-lower, is-ident-start, is-constructor-start, is-anywhite, is-newline-char, is-uoperator}
 use Rattle.definition.specs.Tables.{early-literals, kw-op-rules, op-tokens, mixfix-rules}
-use Rattle.definition.specs.Select.{none-at, places, try-all, select}
+use Rattle.definition.specs.Matchers.{plus, match-newline}
+use Rattle.definition.specs.Select.{none-at, found, places, try-all, select}
 use Rattle.definition.specs.Patterns.{patterns}
+use Rattle.longest.proofs.Places.{white-fast, line-fast}
 use Rattle.select.specs.Groups.{
   at-capital,
   at-letter,
@@ -33,11 +35,13 @@ use Rattle.select.specs.Groups.{
   at-star,
   at-digit,
 }
-use Rattle.select.proofs.First.{begins, among}
-use Rattle.select.proofs.Standing.{Stands, tried, has, operator, name, capital-name}
+use Rattle.select.proofs.First.{begins, among, white-path, line-path}
+use Rattle.select.proofs.Standing.{Stands, tried, has, has-not, operator, name, capital-name}
 
 -- Which group decides at which characters.
 pub record Groups (s f : Bytes) (i : ℕ) : Type 0 where
+  pub white : Stands (9 ∷ 11 ∷ 12 ∷ 32 ∷ []) s i → select s f i ≡ found i 7 0 (plus (is-anywhite f) s i)
+  pub line-end : Stands (10 ∷ 13 ∷ []) s i → select s f i ≡ found i 8 0 (match-newline s i)
   pub capital : Stands (codes "ABCDEFGHIJKLMNOPQRSTUVWXYZ") s i → select s f i ≡ at-capital s f i
   pub letter : Stands (codes "bcdghjknopqtvwxyz") s i → select s f i ≡ at-letter s f i
   pub early-letter : Stands (codes "s") s i → select s f i ≡ at-early-letter s f i
@@ -72,6 +76,8 @@ pub groups : (s f : Bytes) (i : ℕ) → Groups s f i
 unfolding among places try-all begins patterns early-literals kw-op-rules op-tokens mixfix-rules mem-cp count-up ascii-table in-table is-digit is-op-char is-lower is-ident-start is-constructor-start is-anywhite is-newline-char is-uoperator
 groups s f i =
     record {
+      white = λ h. white-path s f i (has h white-fast refl);
+      line-end = λ h. line-path s f i (has-not h white-fast refl) (has h line-fast refl);
       capital = λ h. tried h f (15 ∷ []) refl ∙ rw (capital-name h f refl);
       letter = λ h. tried h f (14 ∷ []) refl ∙ rw (name h f refl);
       early-letter = λ h. tried h f (1 ∷ 14 ∷ []) refl ∙ rw (name h f refl);

@@ -3,3 +3,4 @@ pub mod First
 pub mod Standing
 pub mod Groups
 pub mod BeyondAscii
+pub mod Others

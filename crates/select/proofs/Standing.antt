@@ -1,26 +1,25 @@
 -- One of the ASCII characters of a list stands at an offset: what such a character passes, every character of the list does, and that is
 -- computed. Rests on the law of first characters.
-use Prim.Native.Nat.{ℕ, zero, suc, _+_, _≤_, _<_}
+use Prim.Native.Nat.{ℕ, _+_, _<_}
 use Prim.Native.String.{String}
-use mathlib.Core.Path.{_≡_, refl, sym, ap, _∙_}
-use mathlib.Core.Bool.{Bool, true, false, false≢true}
-use mathlib.Core.List.{List, [], _∷_}
+use mathlib.Core.Path.{_≡_, refl, ap, _∙_}
+use mathlib.Core.Bool.{Bool, true, false, not}
+use mathlib.Core.List.{List}
+use borrow.Author.Tests.{lt-ltb, not-true}
 use native.Mathlib.Omega.{arith}
 use types.Run.{OneOf}
-use lib.Dec.{eqb}
-use borrow.Author.Tests.{eqb-true, eqb-false}
 use Rattle.definition.specs.Basics.{Bytes, codes, mem-cp}
-use Rattle.definition.specs.Utf8.{sequence-at}
+use Rattle.definition.specs.Utf8.{encode, sequence-at}
 use Rattle.definition.specs.Text.{with-char, char-has, star}
-use Rattle.definition.specs.Chars.{count-up, is-symbolchar, is-ident-start, is-constructor-start, is-ident-char}
+use Rattle.definition.specs.Chars.{is-symbolchar, is-ident-start, is-constructor-start, is-ident-char}
 use Rattle.definition.specs.Matchers.{_then_, only, one, match-ident, match-constructor}
 use Rattle.definition.specs.Select.{select, one-of-then-symbols}
 use Rattle.definition.specs.declared.Sequence.{Sequence}
 use Rattle.definition.specs.declared.Sequence.the-variants.{Char}
 use Rattle.definition.specs.declared.Match.{Match}
 use Rattle.definition.specs.declared.Match.the-variants.{To, Nothing}
-use Rattle.lemmas.proofs.Cases.{by-test}
-use Rattle.lemmas.proofs.Members.{all-in, mem-yes, mem-no}
+use Rattle.lemmas.proofs.Members.{all-in, mem-yes}
+use Rattle.text.proofs.Character.{char-read, char-within}
 use Rattle.longest.proofs.Starts.{all-pass, listed-passes}
 use Rattle.longest.proofs.Places.{has-read}
 use Rattle.select.specs.Groups.{Ascii, symbols-behind, name-behind}
@@ -54,6 +53,10 @@ module _ {chars : List ℕ} {s : Bytes} {i : ℕ} (h : Stands chars s i) where
   pub has : (p : ℕ → Bool) → all-pass p chars ≡ true → char-has p s i ≡ true
   has p t = has-read p s i (h .code) 1 (h .read) ∙ passes p t
 
+  -- one that they all fail,
+  pub has-not : (p : ℕ → Bool) → all-pass (λ c. not (p c)) chars ≡ true → char-has p s i ≡ false
+  has-not p t = has-read p s i (h .code) 1 (h .read) ∙ not-true (p (h .code)) (passes (λ c. not (p c)) t)
+
   -- and a matcher of one such character.
   one-passes : (p : ℕ → Bool) → all-pass p chars ≡ true → one p s i ≡ To (i + 1)
   one-passes p t = one-read p s i (h .code) 1 (h .read) ∙ ap (λ (b : Bool). only b (To (i + 1))) (passes p t)
@@ -72,13 +75,14 @@ module _ {chars : List ℕ} {s : Bytes} {i : ℕ} (h : Stands chars s i) where
   unfolding match-constructor
   capital-name f t = ap (λ (m : Match). m then λ j. To (star (is-ident-char f) s j)) (one-passes (is-constructor-start f) t)
 
--- ---- where one stands
-
 -- A character that is one of the keys of an arm.
-pub stands : {s : Bytes} {i c : ℕ} (chars : List ℕ) → all-in chars chars ≡ true → Ascii s i c → OneOf chars c → Stands chars s i
-stands {c = c} chars t h k = record { code = c; read = h .read; listed = mem-yes chars chars c t k }
+pub stands : {s : Bytes} {i c : ℕ} (keys chars : List ℕ) → all-in keys chars ≡ true → Ascii s i c → OneOf keys c → Stands chars s i
+stands {c = c} keys chars t h k = record { code = c; read = h .read; listed = mem-yes keys chars c t k }
 
--- The elements of a list that pass a test.
-abbrev pub passing : (ℕ → Bool) → List ℕ → List ℕ
-passing p [] = []
-passing p (c ∷ l) = elim (p c) [ true ↦ c ∷ passing p l | false ↦ passing p l ]
+-- A character below 128 is one byte, within the text.
+pub ascii-read : {s : Bytes} {i c w : ℕ} → sequence-at s i ≡ Char c w → c < 128 → Ascii s i c
+unfolding encode
+ascii-read {s} {i} {c} {w} q h =
+    let r = char-read q in
+    let z : w ≡ 1 = r .width ∙ rw (lt-ltb c 0x80 h) in
+    record { read = q ∙ ap (Char c) z; small = h; within = omega (arith, char-within r) }

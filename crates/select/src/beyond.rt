@@ -75,7 +75,14 @@ fn uoperator(file: &[u8], c: u32, j: usize) -> Match
 }
 
 // A character c from i to j.
-pub fn at_beyond_ascii(text: &[u8], file: &[u8], ops: &[bool; 128], i: usize, c: u32, j: usize) -> Choice
+pub fn at_beyond_ascii(
+    text: &[u8],
+    file: &[u8],
+    ops: &[bool; 128],
+    i: usize,
+    c: u32,
+    j: usize,
+) -> Choice
     requires { ⌜ (class-check (now file) ≡ 0) × (now ops ≡ ascii-table op-char-cps) ⌝ }
     ensures { λ r. ⌜ r ≡ at-beyond-ascii (now (text .entry)) (now (file .entry)) i c j ⌝ }
 {

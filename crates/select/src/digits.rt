@@ -27,7 +27,14 @@ fn latest(ends: IntegerEnds) -> Match
 }
 
 // A place of an integer with a suffix, after other places.
-fn try_suffix(best: Choice, text: &[u8], ends: IntegerEnds, suffix: &[u8], i: usize, place: u32) -> Choice
+fn try_suffix(
+    best: Choice,
+    text: &[u8],
+    ends: IntegerEnds,
+    suffix: &[u8],
+    i: usize,
+    place: u32,
+) -> Choice
     requires { ⌜ ends ≡ integer-ends (now text) i ⌝ }
     ensures { λ r. ⌜ r ≡ keep best (found i place 0 (match-int-suffix (now (text .entry)) i (now (suffix .entry)))) ⌝ }
 {
@@ -35,7 +42,14 @@ fn try_suffix(best: Choice, text: &[u8], ends: IntegerEnds, suffix: &[u8], i: us
 }
 
 // The same with a u before the suffix.
-fn try_usuffix(best: Choice, text: &[u8], ends: IntegerEnds, suffix: &[u8], i: usize, place: u32) -> Choice
+fn try_usuffix(
+    best: Choice,
+    text: &[u8],
+    ends: IntegerEnds,
+    suffix: &[u8],
+    i: usize,
+    place: u32,
+) -> Choice
     requires { ⌜ ends ≡ integer-ends (now text) i ⌝ }
     ensures { λ r. ⌜ r ≡ keep best (found i place 0 (match-int-usuffix (now (text .entry)) i (now (suffix .entry)))) ⌝ }
 {

@@ -47,12 +47,26 @@ use scan::runs::plus_anywhite;
 use text::sequence_at;
 use words::nothing;
 ghost use mathlib.Core.Path.{_≡_};
-ghost use Prim.Native.Nat.{_<_};
-ghost use lib.ListN.{length};
 ghost use Rattle.definition.specs.ClassFile.{class-check};
-ghost use Rattle.definition.specs.Chars.{ascii-table, op-char-cps, symbolchar-cps};
-ghost use Rattle.definition.specs.Select.{select};
+ghost use Rattle.definition.specs.Chars.{is-anywhite};
+ghost use Rattle.definition.specs.Matchers.{plus, match-newline};
+ghost use Rattle.definition.specs.Select.{found, select};
 ghost use Rattle.select.specs.Groups.{Lent, Ascii, Other};
+
+// White space.
+fn at_white(text: &[u8], file: &[u8], i: usize) -> Choice
+    requires { ⌜ class-check (now file) ≡ 0 ⌝ }
+    ensures { λ r. ⌜ r ≡ found i 7 0 (plus (is-anywhite (now (file .entry))) (now (text .entry)) i) ⌝ }
+{
+    found(i, 7, plus_anywhite(text, file, i))
+}
+
+// A line end.
+fn at_line_end(text: &[u8], i: usize) -> Choice
+    ensures { λ r. ⌜ r ≡ found i 8 0 (match-newline (now (text .entry)) i) ⌝ }
+{
+    found(i, 8, match_newline(text, i))
+}
 
 // A character of ASCII with which no operator, no quote and no keyword begins: a letter, a digit, or none of the 50 places.
 fn at_other(text: &[u8], file: &[u8], c: u32, i: usize) -> Choice
@@ -71,16 +85,25 @@ fn at_other(text: &[u8], file: &[u8], c: u32, i: usize) -> Choice
     nothing(i)
 }
 
-// A character of ASCII.
-fn at_ascii(text: &[u8], file: &[u8], ops: &[bool; 128], symbols: &[bool; 128], c: u8, i: usize) -> Choice
+// A character of ASCII. (Two arms have one answer where their bytes stand side by side: a range would take more tests.)
+fn at_ascii(
+    text: &[u8],
+    file: &[u8],
+    ops: &[bool; 128],
+    symbols: &[bool; 128],
+    c: u8,
+    i: usize,
+) -> Choice
     requires { ⌜ Lent (now file) (now ops) (now symbols) × Ascii (now text) i c ⌝ }
     ensures { λ r. ⌜ r ≡ select (now (text .entry)) (now (file .entry)) i ⌝ }
 {
     match c {
-        b'\t' | 11 | 12 | b' ' => found(i, 7, plus_anywhite(text, file, i)),
-        b'\n' | b'\r' => found(i, 8, match_newline(text, i)),
+        b'\t' | 11 | b' ' => at_white(text, file, i),
+        12 => at_white(text, file, i),
+        b'\n' | b'\r' => at_line_end(text, i),
         b's' => at_early_letter(text, file, i),
-        b'a' | b'e' | b'f' | b'i' | b'l' | b'm' => at_keyword_letter(text, file, ops, i),
+        b'a' | b'e' | b'i' | b'l' => at_keyword_letter(text, file, ops, i),
+        b'f' | b'm' => at_keyword_letter(text, file, ops, i),
         b'r' | b'u' => at_token_letter(text, file, i),
         b'_' => at_underscore(text, file, i),
         b'\'' => at_quote(text, file, i),
@@ -103,13 +126,20 @@ fn at_ascii(text: &[u8], file: &[u8], ops: &[bool; 128], symbols: &[bool; 128], 
         b'=' => at_token_operator(text, symbols, i, 44),
         b'$' => at_token_operator(text, symbols, i, 45),
         b'-' => at_token_operator(text, symbols, i, 47),
-        b')' | b',' | b':' | b'[' | b'\\' | b']' | b'{' | b'}' => at_token(text, i),
+        b')' | b'[' | b']' | b'{' | b'}' => at_token(text, i),
+        b',' | b':' | b'\\' => at_token(text, i),
         _ => at_other(text, file, c as u32, i),
     }
 }
 
 // What is chosen at i.
-pub fn select(text: &[u8], file: &[u8], ops: &[bool; 128], symbols: &[bool; 128], i: usize) -> Choice
+pub fn select(
+    text: &[u8],
+    file: &[u8],
+    ops: &[bool; 128],
+    symbols: &[bool; 128],
+    i: usize,
+) -> Choice
     requires { ⌜ Lent (now file) (now ops) (now symbols) ⌝ }
     ensures { λ r. ⌜ r ≡ select (now (text .entry)) (now (file .entry)) i ⌝ }
 {

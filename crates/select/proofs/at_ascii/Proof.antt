@@ -1,272 +1,253 @@
-use native.Mathlib.Omega.{arith}
+-- Each arm of the `match` is a group of characters, and its answer what is chosen at them.
+use Prim.Native.Nat.{ℕ}
+use mathlib.Core.Path.{refl, sym, _∙_}
+use mathlib.Core.List.{List, [], _∷_}
+use Rattle.definition.specs.Basics.{codes, mem-cp}
+use Rattle.select.specs.Groups.{decided}
+use Rattle.select.proofs.Standing.{stands}
+use Rattle.select.proofs.Groups.{groups}
+use Rattle.select.proofs.Others.{other}
 use borrow.Author.Needs.{needs}
 use Rattle.select.proofs.at_ascii.Statement.{statement}
 use Rattle.select.proofs.at_ascii.Tie as tie
-use Rattle.select.proofs.at_ascii.Reads as reads
-use Rattle.select.proofs.at_ascii.Lts as lts
-use Rattle.matchers.proofs.names.match_newline.Reads as match-newline-reads
-use Rattle.scan.proofs.runs.plus_anywhite.Reads as plus-anywhite-reads
-use Rattle.select.proofs.at_other.Reads as at-other-reads
-use Rattle.select.proofs.choice.found.Reads as found-reads
-use Rattle.select.proofs.letters.at_early_letter.Reads as at-early-letter-reads
-use Rattle.select.proofs.letters.at_keyword_letter.Reads as at-keyword-letter-reads
-use Rattle.select.proofs.letters.at_token_letter.Reads as at-token-letter-reads
-use Rattle.select.proofs.letters.at_underscore.Reads as at-underscore-reads
-use Rattle.select.proofs.operators.at_bar.Reads as at-bar-reads
-use Rattle.select.proofs.operators.at_hash.Reads as at-hash-reads
-use Rattle.select.proofs.operators.at_less.Reads as at-less-reads
-use Rattle.select.proofs.operators.at_operator.Reads as at-operator-reads
-use Rattle.select.proofs.operators.at_paren.Reads as at-paren-reads
-use Rattle.select.proofs.operators.at_percent.Reads as at-percent-reads
-use Rattle.select.proofs.operators.at_point.Reads as at-point-reads
-use Rattle.select.proofs.operators.at_semicolon.Reads as at-semicolon-reads
-use Rattle.select.proofs.operators.at_slash.Reads as at-slash-reads
-use Rattle.select.proofs.operators.at_star.Reads as at-star-reads
-use Rattle.select.proofs.operators.at_token.Reads as at-token-reads
-use Rattle.select.proofs.operators.at_token_operator.Reads as at-token-operator-reads
-use Rattle.select.proofs.quotes.at_backtick.Reads as at-backtick-reads
-use Rattle.select.proofs.quotes.at_double_quote.Reads as at-double-quote-reads
-use Rattle.select.proofs.quotes.at_quote.Reads as at-quote-reads
 
--- src/lib.rt:81:38
-match-newline-requires : tie.Need-match-newline-requires
-match-newline-requires c κs = search needs
+-- The keys of the arms, from the last to the first.
+abbrev arms : List (List ℕ)
+arms =
+    (codes ",:\\") ∷ (codes ")[]{}") ∷ (codes "-") ∷ (codes "$") ∷ (codes "=") ∷ (codes "&") ∷ (codes "!?~") ∷
+    (codes "+") ∷ (codes "@^") ∷ (codes ">") ∷ (codes "*") ∷ (codes ".") ∷ (codes "|") ∷ (codes "<") ∷ (codes "/") ∷
+    (codes "(") ∷ (codes ";") ∷ (codes "%") ∷ (codes "#") ∷ (codes "\"") ∷ (codes "`") ∷ (codes "'") ∷ (codes "_") ∷
+    (codes "ru") ∷ (codes "fm") ∷ (codes "aeil") ∷ (codes "s") ∷ (10 ∷ 13 ∷ []) ∷ (12 ∷ []) ∷ (9 ∷ 11 ∷ 32 ∷ []) ∷ []
 
--- src/lib.rt:81:26
-found-requires : tie.Need-found-requires
-found-requires c κs = search needs
+at-white-requires : tie.Need-at-white-requires
+at-white-requires c κs = search needs
 
--- src/lib.rt:82:17
+at-white-requires-2 : tie.Need-at-white-requires-2
+at-white-requires-2 c κs = search needs
+
+at-line-end-requires : tie.Need-at-line-end-requires
+at-line-end-requires c κs = search needs
+
 at-early-letter-requires : tie.Need-at-early-letter-requires
 at-early-letter-requires c κs = search needs
 
--- src/lib.rt:84:24
-at-token-letter-requires : tie.Need-at-token-letter-requires
-at-token-letter-requires c κs = search needs
-
--- src/lib.rt:85:17
-at-underscore-requires : tie.Need-at-underscore-requires
-at-underscore-requires c κs = search needs
-
--- src/lib.rt:86:18
-at-quote-requires : tie.Need-at-quote-requires
-at-quote-requires c κs = search needs
-
--- src/lib.rt:87:17
-at-backtick-requires : tie.Need-at-backtick-requires
-at-backtick-requires c κs = search needs
-
--- src/lib.rt:88:17
-at-double-quote-requires : tie.Need-at-double-quote-requires
-at-double-quote-requires c κs = search needs
-
--- src/lib.rt:89:17
-at-hash-requires : tie.Need-at-hash-requires
-at-hash-requires c κs = search needs
-
--- src/lib.rt:90:17
-at-percent-requires : tie.Need-at-percent-requires
-at-percent-requires c κs = search needs
-
--- src/lib.rt:91:17
-at-semicolon-requires : tie.Need-at-semicolon-requires
-at-semicolon-requires c κs = search needs
-
--- src/lib.rt:92:17
-at-paren-requires : tie.Need-at-paren-requires
-at-paren-requires c κs = search needs
-
--- src/lib.rt:93:17
-at-slash-requires : tie.Need-at-slash-requires
-at-slash-requires c κs = search needs
-
--- src/lib.rt:94:17
-at-less-requires : tie.Need-at-less-requires
-at-less-requires c κs = search needs
-
--- src/lib.rt:95:17
-at-bar-requires : tie.Need-at-bar-requires
-at-bar-requires c κs = search needs
-
--- src/lib.rt:96:17
-at-point-requires : tie.Need-at-point-requires
-at-point-requires c κs = search needs
-
--- src/lib.rt:97:17
-at-star-requires : tie.Need-at-star-requires
-at-star-requires c κs = search needs
-
--- src/lib.rt:98:17
-at-operator-requires : tie.Need-at-operator-requires
-at-operator-requires c κs = search needs
-
--- src/lib.rt:99:24
-at-operator-requires-2 : tie.Need-at-operator-requires-2
-at-operator-requires-2 c κs = search needs
-
--- src/lib.rt:100:17
-at-operator-requires-3 : tie.Need-at-operator-requires-3
-at-operator-requires-3 c κs = search needs
-
--- src/lib.rt:101:31
-at-token-operator-requires : tie.Need-at-token-operator-requires
-at-token-operator-requires c κs = search needs
-
--- src/lib.rt:102:17
-at-token-operator-requires-2 : tie.Need-at-token-operator-requires-2
-at-token-operator-requires-2 c κs = search needs
-
--- src/lib.rt:103:17
-at-token-operator-requires-3 : tie.Need-at-token-operator-requires-3
-at-token-operator-requires-3 c κs = search needs
-
--- src/lib.rt:104:17
-at-token-operator-requires-4 : tie.Need-at-token-operator-requires-4
-at-token-operator-requires-4 c κs = search needs
-
--- src/lib.rt:105:17
-at-token-operator-requires-5 : tie.Need-at-token-operator-requires-5
-at-token-operator-requires-5 c κs = search needs
-
--- src/lib.rt:107:14
-at-other-requires : tie.Need-at-other-requires
-at-other-requires c κs = ?
-
--- src/lib.rt:83:52
 at-keyword-letter-requires : tie.Need-at-keyword-letter-requires
 at-keyword-letter-requires c κs = search needs
 
--- src/lib.rt:106:67
+at-keyword-letter-requires-2 : tie.Need-at-keyword-letter-requires-2
+at-keyword-letter-requires-2 c κs = search needs
+
+at-token-letter-requires : tie.Need-at-token-letter-requires
+at-token-letter-requires c κs = search needs
+
+at-underscore-requires : tie.Need-at-underscore-requires
+at-underscore-requires c κs = search needs
+
+at-quote-requires : tie.Need-at-quote-requires
+at-quote-requires c κs = search needs
+
+at-backtick-requires : tie.Need-at-backtick-requires
+at-backtick-requires c κs = search needs
+
+at-double-quote-requires : tie.Need-at-double-quote-requires
+at-double-quote-requires c κs = search needs
+
+at-hash-requires : tie.Need-at-hash-requires
+at-hash-requires c κs = search needs
+
+at-percent-requires : tie.Need-at-percent-requires
+at-percent-requires c κs = search needs
+
+at-semicolon-requires : tie.Need-at-semicolon-requires
+at-semicolon-requires c κs = search needs
+
+at-paren-requires : tie.Need-at-paren-requires
+at-paren-requires c κs = search needs
+
+at-slash-requires : tie.Need-at-slash-requires
+at-slash-requires c κs = search needs
+
+at-less-requires : tie.Need-at-less-requires
+at-less-requires c κs = search needs
+
+at-bar-requires : tie.Need-at-bar-requires
+at-bar-requires c κs = search needs
+
+at-point-requires : tie.Need-at-point-requires
+at-point-requires c κs = search needs
+
+at-star-requires : tie.Need-at-star-requires
+at-star-requires c κs = search needs
+
+at-operator-requires : tie.Need-at-operator-requires
+at-operator-requires c κs = search needs
+
+at-operator-requires-2 : tie.Need-at-operator-requires-2
+at-operator-requires-2 c κs = search needs
+
+at-operator-requires-3 : tie.Need-at-operator-requires-3
+at-operator-requires-3 c κs = search needs
+
+at-token-operator-requires : tie.Need-at-token-operator-requires
+at-token-operator-requires c κs = search needs
+
+at-token-operator-requires-2 : tie.Need-at-token-operator-requires-2
+at-token-operator-requires-2 c κs = search needs
+
+at-token-operator-requires-3 : tie.Need-at-token-operator-requires-3
+at-token-operator-requires-3 c κs = search needs
+
+at-token-operator-requires-4 : tie.Need-at-token-operator-requires-4
+at-token-operator-requires-4 c κs = search needs
+
+at-token-operator-requires-5 : tie.Need-at-token-operator-requires-5
+at-token-operator-requires-5 c κs = search needs
+
 at-token-requires : tie.Need-at-token-requires
 at-token-requires c κs = search needs
 
--- src/lib.rt:80:47
-plus-anywhite-requires : tie.Need-plus-anywhite-requires
-plus-anywhite-requires c κs = search needs
+at-token-requires-2 : tie.Need-at-token-requires-2
+at-token-requires-2 c κs = search needs
 
--- src/lib.rt:80:35
-found-requires-2 : tie.Need-found-requires-2
-found-requires-2 c κs = search needs
+at-other-requires : tie.Need-at-other-requires
+unfolding mem-cp decided
+at-other-requires c κs =
+    let given = c .before .before .before .pre in
+    (given .0 .classes, other arms refl refl (given .1) (c .match .rest))
 
--- src/lib.rt:75:1
 returns : tie.Need-returns
-returns c = ?
+unfolding mem-cp
+returns c = c .at-white .ensures ∙ sym (groups _ _ _ .white (stands (9 ∷ 11 ∷ 32 ∷ []) (9 ∷ 11 ∷ 12 ∷ 32 ∷ []) refl (c .before .before .before .before .pre .1) (c .before .match .keys1)))
 
--- src/lib.rt:75:1
 returns-2 : tie.Need-returns-2
-returns-2 c = ?
+unfolding mem-cp
+returns-2 c = c .at-white2 .ensures ∙ sym (groups _ _ _ .white (stands (12 ∷ []) (9 ∷ 11 ∷ 12 ∷ 32 ∷ []) refl (c .before .before .before .before .pre .1) (c .before .match .keys2)))
 
--- src/lib.rt:75:1
 returns-3 : tie.Need-returns-3
-returns-3 c = ?
+unfolding mem-cp
+returns-3 c = c .at-line-end .ensures ∙ sym (groups _ _ _ .line-end (stands (10 ∷ 13 ∷ []) (10 ∷ 13 ∷ []) refl (c .before .before .before .before .pre .1) (c .before .match .keys3)))
 
--- src/lib.rt:75:1
 returns-4 : tie.Need-returns-4
-returns-4 c = ?
+unfolding mem-cp
+returns-4 c = c .at-early-letter .ensures ∙ sym (groups _ _ _ .early-letter (stands (codes "s") (codes "s") refl (c .before .before .before .before .pre .1) (c .before .match .keys4)))
 
--- src/lib.rt:75:1
 returns-5 : tie.Need-returns-5
-returns-5 c = ?
+unfolding mem-cp
+returns-5 c = c .at-keyword-letter .ensures ∙ sym (groups _ _ _ .keyword-letter (stands (codes "aeil") (codes "aefilm") refl (c .before .before .before .before .pre .1) (c .before .match .keys5)))
 
--- src/lib.rt:75:1
 returns-6 : tie.Need-returns-6
-returns-6 c = ?
+unfolding mem-cp
+returns-6 c = c .at-keyword-letter2 .ensures ∙ sym (groups _ _ _ .keyword-letter (stands (codes "fm") (codes "aefilm") refl (c .before .before .before .before .pre .1) (c .before .match .keys6)))
 
--- src/lib.rt:75:1
 returns-7 : tie.Need-returns-7
-returns-7 c = ?
+unfolding mem-cp
+returns-7 c = c .at-token-letter .ensures ∙ sym (groups _ _ _ .token-letter (stands (codes "ru") (codes "ru") refl (c .before .before .before .before .pre .1) (c .before .match .keys7)))
 
--- src/lib.rt:75:1
 returns-8 : tie.Need-returns-8
-returns-8 c = ?
+unfolding mem-cp
+returns-8 c = c .at-underscore .ensures ∙ sym (groups _ _ _ .underscore (stands (codes "_") (codes "_") refl (c .before .before .before .before .pre .1) (c .before .match .keys8)))
 
--- src/lib.rt:75:1
 returns-9 : tie.Need-returns-9
-returns-9 c = ?
+unfolding mem-cp
+returns-9 c = c .at-quote .ensures ∙ sym (groups _ _ _ .quote (stands (codes "'") (codes "'") refl (c .before .before .before .before .pre .1) (c .before .match .keys9)))
 
--- src/lib.rt:75:1
 returns-10 : tie.Need-returns-10
-returns-10 c = ?
+unfolding mem-cp
+returns-10 c = c .at-backtick .ensures ∙ sym (groups _ _ _ .backtick (stands (codes "`") (codes "`") refl (c .before .before .before .before .pre .1) (c .before .match .keys10)))
 
--- src/lib.rt:75:1
 returns-11 : tie.Need-returns-11
-returns-11 c = ?
+unfolding mem-cp
+returns-11 c = c .at-double-quote .ensures ∙ sym (groups _ _ _ .double-quote (stands (codes "\"") (codes "\"") refl (c .before .before .before .before .pre .1) (c .before .match .keys11)))
 
--- src/lib.rt:75:1
 returns-12 : tie.Need-returns-12
-returns-12 c = ?
+unfolding mem-cp
+returns-12 c = c .at-hash .ensures ∙ sym (groups _ _ _ .hash (stands (codes "#") (codes "#") refl (c .before .before .before .before .pre .1) (c .before .match .keys12)))
 
--- src/lib.rt:75:1
 returns-13 : tie.Need-returns-13
-returns-13 c = ?
+unfolding mem-cp
+returns-13 c = c .at-percent .ensures ∙ sym (groups _ _ _ .percent (stands (codes "%") (codes "%") refl (c .before .before .before .before .pre .1) (c .before .match .keys13)))
 
--- src/lib.rt:75:1
 returns-14 : tie.Need-returns-14
-returns-14 c = ?
+unfolding mem-cp
+returns-14 c = c .at-semicolon .ensures ∙ sym (groups _ _ _ .semicolon (stands (codes ";") (codes ";") refl (c .before .before .before .before .pre .1) (c .before .match .keys14)))
 
--- src/lib.rt:75:1
 returns-15 : tie.Need-returns-15
-returns-15 c = ?
+unfolding mem-cp
+returns-15 c = c .at-paren .ensures ∙ sym (groups _ _ _ .paren (stands (codes "(") (codes "(") refl (c .before .before .before .before .pre .1) (c .before .match .keys15)))
 
--- src/lib.rt:75:1
 returns-16 : tie.Need-returns-16
-returns-16 c = ?
+unfolding mem-cp
+returns-16 c = c .at-slash .ensures ∙ sym (groups _ _ _ .slash (stands (codes "/") (codes "/") refl (c .before .before .before .before .pre .1) (c .before .match .keys16)))
 
--- src/lib.rt:75:1
 returns-17 : tie.Need-returns-17
-returns-17 c = ?
+unfolding mem-cp
+returns-17 c = c .at-less .ensures ∙ sym (groups _ _ _ .less (stands (codes "<") (codes "<") refl (c .before .before .before .before .pre .1) (c .before .match .keys17)))
 
--- src/lib.rt:75:1
 returns-18 : tie.Need-returns-18
-returns-18 c = ?
+unfolding mem-cp
+returns-18 c = c .at-bar .ensures ∙ sym (groups _ _ _ .bar (stands (codes "|") (codes "|") refl (c .before .before .before .before .pre .1) (c .before .match .keys18)))
 
--- src/lib.rt:75:1
 returns-19 : tie.Need-returns-19
-returns-19 c = ?
+unfolding mem-cp
+returns-19 c = c .at-point .ensures ∙ sym (groups _ _ _ .point (stands (codes ".") (codes ".") refl (c .before .before .before .before .pre .1) (c .before .match .keys19)))
 
--- src/lib.rt:75:1
 returns-20 : tie.Need-returns-20
-returns-20 c = ?
+unfolding mem-cp
+returns-20 c = c .at-star .ensures ∙ sym (groups _ _ _ .star (stands (codes "*") (codes "*") refl (c .before .before .before .before .pre .1) (c .before .match .keys20)))
 
--- src/lib.rt:75:1
 returns-21 : tie.Need-returns-21
-returns-21 c = ?
+unfolding mem-cp
+returns-21 c = c .at-operator .ensures ∙ sym (groups _ _ _ .greater (stands (codes ">") (codes ">") refl (c .before .before .before .before .pre .1) (c .before .match .keys21)))
 
--- src/lib.rt:75:1
 returns-22 : tie.Need-returns-22
-returns-22 c = ?
+unfolding mem-cp
+returns-22 c = c .at-operator2 .ensures ∙ sym (groups _ _ _ .power (stands (codes "@^") (codes "@^") refl (c .before .before .before .before .pre .1) (c .before .match .keys22)))
 
--- src/lib.rt:75:1
 returns-23 : tie.Need-returns-23
-returns-23 c = ?
+unfolding mem-cp
+returns-23 c = c .at-operator3 .ensures ∙ sym (groups _ _ _ .sum (stands (codes "+") (codes "+") refl (c .before .before .before .before .pre .1) (c .before .match .keys23)))
 
--- src/lib.rt:75:1
 returns-24 : tie.Need-returns-24
-returns-24 c = ?
+unfolding mem-cp
+returns-24 c = c .at-token-operator .ensures ∙ sym (groups _ _ _ .prefix (stands (codes "!?~") (codes "!?~") refl (c .before .before .before .before .pre .1) (c .before .match .keys24)))
 
--- src/lib.rt:75:1
 returns-25 : tie.Need-returns-25
-returns-25 c = search needs
+unfolding mem-cp
+returns-25 c = c .at-token-operator2 .ensures ∙ sym (groups _ _ _ .ampersand (stands (codes "&") (codes "&") refl (c .before .before .before .before .pre .1) (c .before .match .keys25)))
 
--- src/lib.rt:75:1
 returns-26 : tie.Need-returns-26
-returns-26 c = ?
+unfolding mem-cp
+returns-26 c = c .at-token-operator3 .ensures ∙ sym (groups _ _ _ .equals (stands (codes "=") (codes "=") refl (c .before .before .before .before .pre .1) (c .before .match .keys26)))
 
--- src/lib.rt:75:1
 returns-27 : tie.Need-returns-27
-returns-27 c = ?
+unfolding mem-cp
+returns-27 c = c .at-token-operator4 .ensures ∙ sym (groups _ _ _ .dollar (stands (codes "$") (codes "$") refl (c .before .before .before .before .pre .1) (c .before .match .keys27)))
 
--- src/lib.rt:75:1
 returns-28 : tie.Need-returns-28
-returns-28 c = ?
+unfolding mem-cp
+returns-28 c = c .at-token-operator5 .ensures ∙ sym (groups _ _ _ .minus (stands (codes "-") (codes "-") refl (c .before .before .before .before .pre .1) (c .before .match .keys28)))
+
+returns-29 : tie.Need-returns-29
+unfolding mem-cp
+returns-29 c = c .at-token .ensures ∙ sym (groups _ _ _ .bracket (stands (codes ")[]{}") (codes "),:[\\]{}") refl (c .before .before .before .before .pre .1) (c .before .match .keys29)))
+
+returns-30 : tie.Need-returns-30
+unfolding mem-cp
+returns-30 c = c .at-token2 .ensures ∙ sym (groups _ _ _ .bracket (stands (codes ",:\\") (codes "),:[\\]{}") refl (c .before .before .before .before .pre .1) (c .before .match .keys30)))
+
+returns-31 : tie.Need-returns-31
+returns-31 c = search needs
 
 pub at-ascii-spec : {M : Type 1} → statement M
 at-ascii-spec =
     tie.close
     (tie.spec
-    match-newline-requires
-    found-requires
+    at-white-requires
+    at-white-requires-2
+    at-line-end-requires
     at-early-letter-requires
+    at-keyword-letter-requires
+    at-keyword-letter-requires-2
     at-token-letter-requires
     at-underscore-requires
     at-quote-requires
@@ -289,11 +270,9 @@ at-ascii-spec =
     at-token-operator-requires-3
     at-token-operator-requires-4
     at-token-operator-requires-5
-    at-other-requires
-    at-keyword-letter-requires
     at-token-requires
-    plus-anywhite-requires
-    found-requires-2
+    at-token-requires-2
+    at-other-requires
     returns
     returns-2
     returns-3
@@ -321,4 +300,7 @@ at-ascii-spec =
     returns-25
     returns-26
     returns-27
-    returns-28)
+    returns-28
+    returns-29
+    returns-30
+    returns-31)

@@ -1,60 +1,46 @@
-use native.Mathlib.Omega.{arith}
+-- `at_other` tells a letter, a capital and a digit from what no place begins with.
+use mathlib.Core.Path.{sym, _∙_}
+use Rattle.select.proofs.Others.{other-letter, other-capital, other-digit, other-none}
 use borrow.Author.Needs.{needs}
 use Rattle.select.proofs.at_other.Statement.{statement}
 use Rattle.select.proofs.at_other.Tie as tie
-use Rattle.select.proofs.at_other.Reads as reads
-use Rattle.select.proofs.at_other.Lts as lts
-use Rattle.chars.proofs.is_constructor_start.Reads as is-constructor-start-reads
-use Rattle.chars.proofs.is_digit.Reads as is-digit-reads
-use Rattle.chars.proofs.is_ident_start.Reads as is-ident-start-reads
-use Rattle.select.proofs.digits.at_digit.Reads as at-digit-reads
-use Rattle.select.proofs.letters.at_capital.Reads as at-capital-reads
-use Rattle.select.proofs.letters.at_letter.Reads as at-letter-reads
-use Rattle.words.proofs.nothing.Reads as nothing-reads
 
--- src/lib.rt:62:8
 is-ident-start-requires : tie.Need-is-ident-start-requires
 is-ident-start-requires c κs = search needs
 
--- src/lib.rt:63:9
 at-letter-requires : tie.Need-at-letter-requires
 at-letter-requires c κs = search needs
 
--- src/lib.rt:63:9
 returns : tie.Need-returns
-returns c = ?
+returns c = c .at-letter .ensures ∙ sym (other-letter _ (c .before .before .before .before .before .pre .1) (sym (c .before .before .is-ident-start .ensures) ∙ c .before .if1 .taken))
 
--- src/lib.rt:65:8
 is-constructor-start-requires : tie.Need-is-constructor-start-requires
 is-constructor-start-requires c κs = search needs
 
--- src/lib.rt:66:9
 at-capital-requires : tie.Need-at-capital-requires
 at-capital-requires c κs = search needs
 
--- src/lib.rt:66:9
 returns-2 : tie.Need-returns-2
-returns-2 c = ?
+returns-2 c = c .at-capital .ensures ∙ sym (other-capital _ (c .before .before .before .before .before .before .before .pre .1) (sym (c .before .before .is-constructor-start .ensures) ∙ c .before .if2 .taken))
 
--- src/lib.rt:68:8
 is-digit-requires : tie.Need-is-digit-requires
 is-digit-requires c κs = search needs
 
--- src/lib.rt:69:9
 at-digit-requires : tie.Need-at-digit-requires
 at-digit-requires c κs = search needs
 
--- src/lib.rt:69:9
 returns-3 : tie.Need-returns-3
-returns-3 c = ?
+returns-3 c = c .at-digit .ensures ∙ sym (other-digit _ (c .before .before .before .before .before .before .before .before .before .pre .1) (sym (c .before .before .is-digit .ensures) ∙ c .before .if3 .taken))
 
--- src/lib.rt:71:5
 nothing-requires : tie.Need-nothing-requires
 nothing-requires c κs = search needs
 
--- src/lib.rt:58:1
 returns-4 : tie.Need-returns-4
-returns-4 c = ?
+returns-4 c =
+    let d = c .before .before .before in
+    let e = d .before .before in
+    c .nothing .ensures
+    ∙ sym (other-none _ (e .before .before .before .before .pre .1) (sym (e .before .is-ident-start .ensures) ∙ e .if1 .left) (sym (d .before .is-constructor-start .ensures) ∙ d .if2 .left) (sym (c .before .before .is-digit .ensures) ∙ c .before .if3 .left))
 
 pub at-other-spec : {M : Type 1} → statement M
 at-other-spec =

@@ -1,51 +1,43 @@
+-- `select` is the definition's `select`: where no character stands nothing is chosen, and one that stands there is beyond ASCII or of it.
+use mathlib.Core.Path.{sym, subst, _∙_}
+use Rattle.text.proofs.Reading.{No-char}
+use Rattle.text.proofs.Character.{char-read, char-within}
+use Rattle.scan.proofs.RunLaws.{no-char}
+use Rattle.select.proofs.First.{select-none}
+use Rattle.select.proofs.BeyondAscii.{beyond-ascii}
+use Rattle.select.proofs.Standing.{ascii-read}
 use native.Mathlib.Omega.{arith}
 use borrow.Author.Needs.{needs}
 use Rattle.select.proofs.select.Statement.{statement}
 use Rattle.select.proofs.select.Tie as tie
-use Rattle.select.proofs.select.Reads as reads
-use Rattle.select.proofs.select.Lts as lts
-use Rattle.select.proofs.at_ascii.Reads as at-ascii-reads
-use Rattle.select.proofs.beyond.at_beyond_ascii.Reads as at-beyond-ascii-reads
-use Rattle.text.proofs.sequence_at.Reads as sequence-at-reads
-use Rattle.words.proofs.nothing.Reads as nothing-reads
 
--- src/lib.rt:116:36
 sequence-at-requires : tie.Need-sequence-at-requires
 sequence-at-requires c κs = search needs
 
--- src/lib.rt:116:24
 enum-known-c : tie.Need-enum-known-c
 enum-known-c c = search needs
 
--- src/lib.rt:117:9
 nothing-requires : tie.Need-nothing-requires
 nothing-requires c κs = search needs
 
--- src/lib.rt:117:9
 returns : tie.Need-returns
-returns c = ?
+returns c = c .nothing .ensures ∙ sym (select-none _ _ _ (subst No-char (c .before .before .sequence-at .ensures) (no-char (c .before .before .sequence-at .result) (c .before .match .keys2))))
 
--- src/lib.rt:120:55
 add-at-beyond-ascii : tie.Need-add-at-beyond-ascii
-add-at-beyond-ascii c = ?
+add-at-beyond-ascii c = omega (arith, char-within (char-read (sym (c .before .before .before .before .sequence-at .ensures) ∙ c .before .before .c .given .1)))
 
--- src/lib.rt:120:9
 at-beyond-ascii-requires : tie.Need-at-beyond-ascii-requires
 at-beyond-ascii-requires c κs = search needs
 
--- src/lib.rt:120:9
 returns-2 : tie.Need-returns-2
-returns-2 c = ?
+returns-2 c = c .at-beyond-ascii .ensures ∙ sym (beyond-ascii _ _ _ _ _ (sym (c .before .before .before .before .before .sequence-at .ensures) ∙ c .before .before .before .c .given .1) (c .before .if1 .taken))
 
--- src/lib.rt:122:40
 cast-at-ascii : tie.Need-cast-at-ascii
 cast-at-ascii c = search needs
 
--- src/lib.rt:122:5
 at-ascii-requires : tie.Need-at-ascii-requires
-at-ascii-requires c κs = ?
+at-ascii-requires c κs = (c .before .before .before .before .before .before .before .pre, ascii-read (sym (c .before .before .before .before .sequence-at .ensures) ∙ c .before .before .c .given .1) (c .if1 .left))
 
--- src/lib.rt:112:1
 returns-3 : tie.Need-returns-3
 returns-3 c = search needs
 
