@@ -21,7 +21,7 @@ use Rattle.definition.specs.declared.Match.the-variants.{To, Nothing}
 use Rattle.lemmas.proofs.Cases.{by-test, both}
 use Rattle.longest.proofs.Starts.{all-pass}
 use Rattle.longest.proofs.Places.{has-read}
-use Rattle.select.specs.Groups.{at-beyond-ascii}
+use Rattle.groups.specs.Groups.{at-beyond-ascii}
 use Rattle.select.proofs.First.{begins, among, select-among}
 use Rattle.select.proofs.Standing.{one-read}
 

@@ -11,7 +11,7 @@ use Rattle.definition.specs.Matchers.{plus, match-newline}
 use Rattle.definition.specs.Select.{none-at, found, places, try-all, select}
 use Rattle.definition.specs.Patterns.{patterns}
 use Rattle.longest.proofs.Places.{white-fast, line-fast}
-use Rattle.select.specs.Groups.{
+use Rattle.groups.specs.Groups.{
   at-capital,
   at-letter,
   at-early-letter,

@@ -15,7 +15,8 @@ use Rattle.definition.specs.Select.{none-at, places, try-all, select}
 use Rattle.definition.specs.Patterns.{patterns}
 use Rattle.lemmas.proofs.Cases.{by-test, by-order, both, both-true}
 use Rattle.lemmas.proofs.Members.{all-in, mem-no}
-use Rattle.select.specs.Groups.{Ascii, Other, decided, at-letter, at-capital, at-digit}
+use Rattle.groups.specs.Groups.{at-letter, at-capital, at-digit}
+use Rattle.select.specs.Standing.{Ascii, Other, decided}
 use Rattle.select.proofs.First.{begins, among}
 use Rattle.select.proofs.Standing.{Stands, tried}
 use Rattle.select.proofs.Groups.{groups}

@@ -22,7 +22,8 @@ use Rattle.lemmas.proofs.Members.{all-in, mem-yes}
 use Rattle.text.proofs.Character.{char-read, char-within}
 use Rattle.longest.proofs.Starts.{all-pass, listed-passes}
 use Rattle.longest.proofs.Places.{has-read}
-use Rattle.select.specs.Groups.{Ascii, symbols-behind, name-behind}
+use Rattle.groups.specs.Groups.{symbols-behind, name-behind}
+use Rattle.select.specs.Standing.{Ascii}
 use Rattle.select.proofs.First.{begins, among, select-among}
 
 -- One of the ASCII characters of a list stands at i.

@@ -1,2 +1,2 @@
--- `Groups`: what may be chosen at each first character.
-pub mod Groups
+-- `Standing`: what is lent, and which character stands at an offset.
+pub mod Standing

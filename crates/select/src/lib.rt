@@ -6,67 +6,42 @@
 // BeyondAscii).
 // Assumed: nothing but what `select`'s `requires` says: a class file that `class_check` accepts, and the tables of operator
 // and of symbol characters.
-pub mod beyond; // beyond.rt: characters beyond ASCII
-pub mod choice; // choice.rt: the choice of one place, by itself and after others
-pub mod digits; // digits.rt: numbers
-pub mod letters; // letters.rt: names, and what else begins with a letter
-pub mod operators; // operators.rt: operators and brackets
-pub mod quotes; // quotes.rt: the three quotes
-
-use crate::beyond::at_beyond_ascii;
-use crate::choice::found;
-use crate::digits::at_digit;
-use crate::letters::at_capital;
-use crate::letters::at_early_letter;
-use crate::letters::at_keyword_letter;
-use crate::letters::at_letter;
-use crate::letters::at_token_letter;
-use crate::letters::at_underscore;
-use crate::operators::at_bar;
-use crate::operators::at_hash;
-use crate::operators::at_less;
-use crate::operators::at_operator;
-use crate::operators::at_paren;
-use crate::operators::at_percent;
-use crate::operators::at_point;
-use crate::operators::at_semicolon;
-use crate::operators::at_slash;
-use crate::operators::at_star;
-use crate::operators::at_token;
-use crate::operators::at_token_operator;
-use crate::quotes::at_backtick;
-use crate::quotes::at_double_quote;
-use crate::quotes::at_quote;
+use groups::beyond::at_beyond_ascii;
+use groups::digits::at_digit;
+use groups::letters::at_capital;
+use groups::letters::at_early_letter;
+use groups::letters::at_keyword_letter;
+use groups::letters::at_letter;
+use groups::letters::at_token_letter;
+use groups::letters::at_underscore;
+use groups::operators::at_bar;
+use groups::operators::at_hash;
+use groups::operators::at_less;
+use groups::operators::at_operator;
+use groups::operators::at_paren;
+use groups::operators::at_percent;
+use groups::operators::at_point;
+use groups::operators::at_semicolon;
+use groups::operators::at_slash;
+use groups::operators::at_star;
+use groups::operators::at_token;
+use groups::operators::at_token_operator;
+use groups::quotes::at_backtick;
+use groups::quotes::at_double_quote;
+use groups::quotes::at_quote;
+use groups::white::at_line_end;
+use groups::white::at_white;
 use chars::is_constructor_start;
 use chars::is_digit;
 use chars::is_ident_start;
 use definition::Choice;
 use definition::Sequence;
-use matchers::names::match_newline;
-use scan::runs::plus_anywhite;
 use text::sequence_at;
 use words::nothing;
 ghost use mathlib.Core.Path.{_≡_};
 ghost use Rattle.definition.specs.ClassFile.{class-check};
-ghost use Rattle.definition.specs.Chars.{is-anywhite};
-ghost use Rattle.definition.specs.Matchers.{plus, match-newline};
-ghost use Rattle.definition.specs.Select.{found, select};
-ghost use Rattle.select.specs.Groups.{Lent, Ascii, Other};
-
-// White space.
-fn at_white(text: &[u8], file: &[u8], i: usize) -> Choice
-    requires { ⌜ class-check (now file) ≡ 0 ⌝ }
-    ensures { λ r. ⌜ r ≡ found i 7 0 (plus (is-anywhite (now (file .entry))) (now (text .entry)) i) ⌝ }
-{
-    found(i, 7, plus_anywhite(text, file, i))
-}
-
-// A line end.
-fn at_line_end(text: &[u8], i: usize) -> Choice
-    ensures { λ r. ⌜ r ≡ found i 8 0 (match-newline (now (text .entry)) i) ⌝ }
-{
-    found(i, 8, match_newline(text, i))
-}
+ghost use Rattle.definition.specs.Select.{select};
+ghost use Rattle.select.specs.Standing.{Lent, Ascii, Other};
 
 // A character of ASCII with which no operator, no quote and no keyword begins: a letter, a digit, or none of the 50 places.
 fn at_other(text: &[u8], file: &[u8], c: u32, i: usize) -> Choice

@@ -3,7 +3,7 @@ use Prim.Native.Nat.{ℕ}
 use mathlib.Core.Path.{refl, sym, _∙_}
 use mathlib.Core.List.{List, [], _∷_}
 use Rattle.definition.specs.Basics.{codes, mem-cp}
-use Rattle.select.specs.Groups.{decided}
+use Rattle.select.specs.Standing.{decided}
 use Rattle.select.proofs.Standing.{stands}
 use Rattle.select.proofs.Groups.{groups}
 use Rattle.select.proofs.Others.{other}
