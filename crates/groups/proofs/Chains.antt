@@ -1,6 +1,6 @@
 -- The choice among places put together from what each call answered. Rests on the definitions alone.
 use Prim.Native.Nat.{ℕ}
-use mathlib.Core.Path.{_≡_, refl, sym, ap, ap₂, _∙_}
+use mathlib.Core.Path.{_≡_, sym, ap, ap₂, _∙_}
 use mathlib.Core.Bool.{Bool, true, false}
 use Rattle.definition.specs.Basics.{Bytes}
 use Rattle.definition.specs.Matchers.{_then_, later, max-list, only, match-integer, match-xinteger, any-integer-ends}

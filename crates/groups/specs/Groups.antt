@@ -1,16 +1,11 @@
 -- What may be chosen at an offset by the character that stands there: the places that may begin with it, in order, without the tests that
--- it passes. That each group is what `select` chooses at its characters is proved in proofs/Groups.antt.
+-- it passes. That each group is what `select` chooses at its characters is proved in the crate `select`.
 -- s is the text, f the class file, i the offset.
-use Prim.Native.Nat.{ℕ, _+_, _<_}
-use mathlib.Core.Path.{_≡_}
-use mathlib.Core.Bool.{Bool, true, false}
-use mathlib.Core.List.{List, [], _∷_}
-use Rattle.definition.specs.Basics.{Bytes, codes, mem-cp}
-use lib.ListN.{length}
-use Rattle.definition.specs.Utf8.{sequence-at}
+use Prim.Native.Nat.{ℕ, _+_}
+use mathlib.Core.Bool.{true, false}
+use Rattle.definition.specs.Basics.{Bytes}
 use Rattle.definition.specs.Text.{star}
-use Rattle.definition.specs.ClassFile.{class-check}
-use Rattle.definition.specs.Chars.{ascii-table, op-char-cps, symbolchar-cps, is-op-char, is-symbolchar, is-ident-start, is-constructor-start, is-ident-char, is-anywhite, is-newline-char, is-uoperator}
+use Rattle.definition.specs.Chars.{is-op-char, is-symbolchar, is-ident-start, is-constructor-start, is-ident-char, is-anywhite, is-newline-char, is-uoperator}
 use Rattle.definition.specs.Tables.{cps, early-literals, kw-op-rules, op-tokens, mixfix-rules}
 use Rattle.definition.specs.Matchers.{
   _then_,
@@ -30,7 +25,6 @@ use Rattle.definition.specs.Matchers.{
 }
 use Rattle.definition.specs.Select.{none-at, keep, found, try-words, lit-then-symbols}
 use Rattle.definition.specs.declared.Choice.{Choice}
-use Rattle.definition.specs.declared.Sequence.the-variants.{Char}
 use Rattle.definition.specs.declared.Match.{Match}
 use Rattle.definition.specs.declared.Match.the-variants.{To}
 

@@ -17,7 +17,7 @@ use Rattle.definition.specs.Select.{places, try-all, select}
 use Rattle.definition.specs.Patterns.{patterns}
 use Rattle.definition.specs.declared.Sequence.the-variants.{Char}
 use Rattle.definition.specs.declared.Match.{Match}
-use Rattle.definition.specs.declared.Match.the-variants.{To, Nothing}
+use Rattle.definition.specs.declared.Match.the-variants.{To}
 use Rattle.lemmas.proofs.Cases.{by-test, both}
 use Rattle.longest.proofs.Starts.{all-pass}
 use Rattle.longest.proofs.Places.{has-read}

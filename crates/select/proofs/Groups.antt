@@ -2,13 +2,13 @@
 -- law of first characters; which places may begin with a character, and which tests it passes, is computed.
 use Prim.Native.Nat.{ℕ}
 use mathlib.Core.Path.{_≡_, refl, _∙_}
-use mathlib.Core.List.{List, [], _∷_}
+use mathlib.Core.List.{[], _∷_}
 use lib.Dec.{eqb}
 use Rattle.definition.specs.Basics.{Bytes, ch, codes, mem-cp}
 use Rattle.definition.specs.Chars.{count-up, ascii-table, in-table, is-digit, is-op-char, is-lower, is-ident-start, is-constructor-start, is-anywhite, is-newline-char, is-uoperator}
 use Rattle.definition.specs.Tables.{early-literals, kw-op-rules, op-tokens, mixfix-rules}
 use Rattle.definition.specs.Matchers.{plus, match-newline}
-use Rattle.definition.specs.Select.{none-at, found, places, try-all, select}
+use Rattle.definition.specs.Select.{found, places, try-all, select}
 use Rattle.definition.specs.Patterns.{patterns}
 use Rattle.longest.proofs.Places.{white-fast, line-fast}
 use Rattle.groups.specs.Groups.{

@@ -7,8 +7,8 @@ use mathlib.Core.List.{List, [], _∷_, _++_}
 use native.Mathlib.Omega.{arith}
 use types.Run.{OneOf}
 use lib.Dec.{eqb}
-use borrow.Author.Tests.{eqb-true, eqb-false, eq-eqb, ne-eqb}
-use Rattle.definition.specs.Basics.{Bytes, codes, mem-cp}
+use borrow.Author.Tests.{eqb-true, eqb-false, ne-eqb}
+use Rattle.definition.specs.Basics.{Bytes, mem-cp}
 use Rattle.definition.specs.Chars.{count-up, is-lower, is-digit, is-ident-start, is-constructor-start, is-op-char, in-table, ascii-table, is-anywhite, is-newline-char, is-uoperator}
 use Rattle.definition.specs.Tables.{early-literals, kw-op-rules, op-tokens, mixfix-rules}
 use Rattle.definition.specs.Select.{none-at, places, try-all, select}
