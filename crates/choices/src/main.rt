@@ -60,7 +60,12 @@ fn choices(text: &[u8], file: &[u8]) {
         refuse(8);
         return;
     }
-    list(text, file, &ascii::op_char_table(), &ascii::symbolchar_table());
+    list(
+        text,
+        file,
+        &ascii::op_char_table(),
+        &ascii::symbolchar_table(),
+    );
 }
 
 // Reads classes.bin, one byte more than a class file may have, and answers how many bytes came.

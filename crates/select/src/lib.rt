@@ -6,6 +6,11 @@
 // BeyondAscii).
 // Assumed: nothing but what `select`'s `requires` says: a class file that `class_check` accepts, and the tables of operator
 // and of symbol characters.
+use chars::is_constructor_start;
+use chars::is_digit;
+use chars::is_ident_start;
+use definition::Choice;
+use definition::Sequence;
 use groups::beyond::at_beyond_ascii;
 use groups::digits::at_digit;
 use groups::letters::at_capital;
@@ -31,11 +36,6 @@ use groups::quotes::at_double_quote;
 use groups::quotes::at_quote;
 use groups::white::at_line_end;
 use groups::white::at_white;
-use chars::is_constructor_start;
-use chars::is_digit;
-use chars::is_ident_start;
-use definition::Choice;
-use definition::Sequence;
 use text::sequence_at;
 use words::nothing;
 ghost use mathlib.Core.Path.{_≡_};
