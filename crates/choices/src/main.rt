@@ -1,9 +1,9 @@
-// The choice at every offset of standard input where a character begins: a line for each, with the offset, the place and the end of the
-// part; where nothing is permitted, place 0 and the offset itself. The classes are those of the file classes.bin in the working directory; a
-// missing one counts as empty. A refused text or class file gives REFUSED and the number: 6 for a text above 60,000 bytes, then what the
-// class check answers, then 8 for ill-formed UTF-8.
-// Proved: it ends and breaks nothing, and the choice is the definition's (crate `select`). What it writes for the stored text is compared
-// with the file stdout.
+// The choice at every offset of standard input where a character begins: a line for each, with the offset, the place and
+// the end of the part; where nothing is permitted, place 0 and the offset itself. The classes are those of the file
+// classes.bin in the working directory; a missing one counts as empty. A refused text or class file gives REFUSED and the
+// number: 6 for a text above 60,000 bytes, then what the class check answers, then 8 for ill-formed UTF-8.
+// Proved: it ends and breaks nothing, and the choice is the definition's (crate `select`). What it writes for the stored
+// text, which reaches each of the 50 places and none, is compared with the file stdout.
 // Assumed: what `libc` and `os` declare of reading and writing.
 use definition::Choice;
 use definition::Sequence;
