@@ -65,6 +65,7 @@ pub fn at_token_operator(text: &[u8], symbols: &[bool; 128], i: usize, place: u3
     try_place(best, i, place, symbols_behind(text, symbols, i))
 }
 
+// A pragma, `#lang-` with an identifier, or the token.
 pub fn at_hash(text: &[u8], file: &[u8], i: usize) -> Choice
     requires { ⌜ class-check (now file) ≡ 0 ⌝ }
     ensures { λ r. ⌜ r ≡ at-hash (now (text .entry)) (now (file .entry)) i ⌝ }
@@ -74,6 +75,7 @@ pub fn at_hash(text: &[u8], file: &[u8], i: usize) -> Choice
     keep(best, op_token(text, i))
 }
 
+// An early literal, the token `%[`, or symbol characters.
 pub fn at_percent(text: &[u8], symbols: &[bool; 128], i: usize) -> Choice
     requires { ⌜ (now symbols ≡ ascii-table symbolchar-cps) × (i < length (now text)) ⌝ }
     ensures { λ r. ⌜ r ≡ at-percent (now (text .entry)) i ⌝ }
@@ -83,6 +85,7 @@ pub fn at_percent(text: &[u8], symbols: &[bool; 128], i: usize) -> Choice
     try_place(best, i, 48, symbols_behind(text, symbols, i))
 }
 
+// A semicolon with operator characters behind it, two, or one.
 pub fn at_semicolon(text: &[u8], ops: &[bool; 128], i: usize) -> Choice
     requires { ⌜ now ops ≡ ascii-table op-char-cps ⌝ }
     ensures { λ r. ⌜ r ≡ at-semicolon (now (text .entry)) i ⌝ }
@@ -92,6 +95,7 @@ pub fn at_semicolon(text: &[u8], ops: &[bool; 128], i: usize) -> Choice
     keep(best, op_token(text, i))
 }
 
+// The opening of a comment, or a token.
 pub fn at_paren(text: &[u8], i: usize) -> Choice
     ensures { λ r. ⌜ r ≡ at-paren (now (text .entry)) i ⌝ }
 {
@@ -99,6 +103,7 @@ pub fn at_paren(text: &[u8], i: usize) -> Choice
     keep(best, op_token(text, i))
 }
 
+// A line comment, which `// IN F*:` opens too, the token `/\`, or symbol characters.
 pub fn at_slash(text: &[u8], symbols: &[bool; 128], i: usize) -> Choice
     requires { ⌜ (now symbols ≡ ascii-table symbolchar-cps) × (i < length (now text)) ⌝ }
     ensures { λ r. ⌜ r ≡ at-slash (now (text .entry)) i ⌝ }
@@ -109,6 +114,7 @@ pub fn at_slash(text: &[u8], symbols: &[bool; 128], i: usize) -> Choice
     try_place(best, i, 48, symbols_behind(text, symbols, i))
 }
 
+// The pipe `<|`, a token, `<` by itself, or symbol characters.
 pub fn at_less(text: &[u8], symbols: &[bool; 128], i: usize) -> Choice
     requires { ⌜ (now symbols ≡ ascii-table symbolchar-cps) × (i < length (now text)) ⌝ }
     ensures { λ r. ⌜ r ≡ at-less (now (text .entry)) i ⌝ }
@@ -119,6 +125,7 @@ pub fn at_less(text: &[u8], symbols: &[bool; 128], i: usize) -> Choice
     try_place(best, i, 44, symbols_behind(text, symbols, i))
 }
 
+// The pipe `|>`, a token, `|->` with symbol characters, or those alone.
 pub fn at_bar(text: &[u8], symbols: &[bool; 128], i: usize) -> Choice
     requires { ⌜ (now symbols ≡ ascii-table symbolchar-cps) × (i < length (now text)) ⌝ }
     ensures { λ r. ⌜ r ≡ at-bar (now (text .entry)) i ⌝ }
@@ -129,6 +136,7 @@ pub fn at_bar(text: &[u8], symbols: &[bool; 128], i: usize) -> Choice
     try_place(best, i, 42, symbols_behind(text, symbols, i))
 }
 
+// Two points, a token, or a mixfix word.
 pub fn at_point(text: &[u8], i: usize) -> Choice
     ensures { λ r. ⌜ r ≡ at-point (now (text .entry)) i ⌝ }
 {
@@ -137,6 +145,7 @@ pub fn at_point(text: &[u8], i: usize) -> Choice
     keep(best, mixfix_word(text, i))
 }
 
+// Two stars with symbol characters, or those behind one.
 pub fn at_star(text: &[u8], symbols: &[bool; 128], i: usize) -> Choice
     requires { ⌜ (now symbols ≡ ascii-table symbolchar-cps) × (i < length (now text)) ⌝ }
     ensures { λ r. ⌜ r ≡ at-star (now (text .entry)) i ⌝ }

@@ -91,6 +91,13 @@ module _ (s f : Bytes) (i : ℕ) where
       (λ l. absurd (false≢true (sym n ∙ step-code q (at-first s (pattern f k) i (p .end) (place-fits h a l) l .1) .1)))
       (λ l. l)
 
+  -- Where neither fast path is taken, all places are tried.
+  slow-path : Slow s i → select s f i ≡ try-all (places s f i) (none-at i)
+  unfolding select
+  slow-path h =
+      by-test (λ (x : Choice). x ≡ try-all (places s f i) (none-at i)) (char-has white-fast s i) (λ e. absurd (false≢true (sym (h .no-white) ∙ e))) λ _.
+      by-test (λ (x : Choice). x ≡ try-all (places s f i) (none-at i)) (char-has line-fast s i) (λ e. absurd (false≢true (sym (h .no-line) ∙ e))) λ _. refl
+
   -- Where neither fast path is taken, the places of a list decide if only they may begin with the character.
   slow-among : Slow s i → (ks : List ℕ) (c w : ℕ) → sequence-at s i ≡ Char c w → only-those ks 0 (never ∷ patterns f) c ≡ true
       → try-all (places s f i) (none-at i) ≡ among ks s f i
@@ -115,26 +122,24 @@ module _ (s f : Bytes) (i : ℕ) where
 
   -- Where no character stands, no place finds anything.
   pub select-none : No-char (sequence-at s i) → select s f i ≡ none-at i
-  unfolding select places char-has try-all mem-cp
+  unfolding places char-has try-all mem-cp
   select-none h =
-      let white = with-none (sequence-at s i) i (λ c j. white-fast c) false h in
-      let line = with-none (sequence-at s i) i (λ c j. line-fast c) false h in
-      by-test (λ (x : Choice). x ≡ none-at i) (char-has white-fast s i) (λ e. absurd (false≢true (sym white ∙ e))) λ _.
-      by-test (λ (x : Choice). x ≡ none-at i) (char-has line-fast s i) (λ e. absurd (false≢true (sym line ∙ e))) λ _.
-      those-decide [] i
+      let slow : Slow s i = record { no-white = with-none (sequence-at s i) i _ false h; no-line = with-none (sequence-at s i) i _ false h } in
+      slow-path slow
+      ∙ those-decide [] i
       (λ k p a _. by-order i (p .end)
-      (λ l. absurd (subst No-char (at-first s (pattern f k) i (p .end) (place-fits (record { no-white = white; no-line = line }) a l) l .1 .read) h))
+      (λ l. absurd (subst No-char (at-first s (pattern f k) i (p .end) (place-fits slow a l) l .1 .read) h))
       (λ l. l))
       (all-places s f i (numbers s f i)) (none-at i) (omega arith)
 
   -- The places of a list decide what `select` chooses at a character with which only they may begin.
   pub select-among : (ks : List ℕ) (c w : ℕ) → sequence-at s i ≡ Char c w → begins f ks c ≡ true → select s f i ≡ among ks s f i
-  unfolding select begins
+  unfolding begins
   select-among ks c w q t =
       let a = both (not (white-fast c)) _ t in
       let b = both (not (line-fast c)) _ (a .1) in
-      let white : char-has white-fast s i ≡ false = has-read white-fast s i c w q ∙ not-true (white-fast c) (a .0) in
-      let line : char-has line-fast s i ≡ false = has-read line-fast s i c w q ∙ not-true (line-fast c) (b .0) in
-      by-test (λ (x : Choice). x ≡ among ks s f i) (char-has white-fast s i) (λ e. absurd (false≢true (sym white ∙ e))) λ _.
-      by-test (λ (x : Choice). x ≡ among ks s f i) (char-has line-fast s i) (λ e. absurd (false≢true (sym line ∙ e))) λ _.
-      slow-among (record { no-white = white; no-line = line }) ks c w q (b .1)
+      let slow : Slow s i = record {
+        no-white = has-read white-fast s i c w q ∙ not-true (white-fast c) (a .0);
+        no-line = has-read line-fast s i c w q ∙ not-true (line-fast c) (b .0);
+      } in
+      slow-path slow ∙ slow-among slow ks c w q (b .1)
