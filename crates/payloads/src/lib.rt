@@ -33,8 +33,18 @@ fn write_greater(text: &[u8], from: usize, to: usize, out: &mut [u8])
     requires { ⌜ (to ≤ length (now text)) × (1 + (to - from) ≤ length (now out)) ⌝ }
     ensures { λ r. ⌜ now (out .exit) ≡ over (ch ">" ∷ slice from to (now (text .entry))) (now (out .entry)) ⌝ }
 {
-    out[0] = b'>';
     write_part(text, from, to, &mut out[1..]);
+    out[0] = b'>';
+}
+
+// Writes a line's number in parentheses.
+fn write_mark(line: u32, out: &mut [u8])
+    requires { ⌜ length (show line) + 2 ≤ length (now out) ⌝ }
+    ensures { λ r. ⌜ now (out .exit) ≡ over (cps "(" ++ (show line ++ cps ")")) (now (out .entry)) ⌝ }
+{
+    let digits = show_into(line, &mut out[1..]);
+    out[0] = b'(';
+    out[1 + digits] = b')';
 }
 
 // Writes the file's name and a line's number in parentheses.
@@ -44,9 +54,7 @@ fn write_file_line(name: &[u8], line: u32, out: &mut [u8])
 {
     let n = name.len();
     write_part(name, 0, n, out);
-    out[n] = b'(';
-    let digits = show_into(line, &mut out[n + 1..]);
-    out[n + 1 + digits] = b')';
+    write_mark(line, &mut out[n..]);
 }
 
 // Writes two parts of the text, one behind the other.

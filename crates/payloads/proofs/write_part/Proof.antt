@@ -1,56 +1,58 @@
+-- The invariant is `Copied`: the first j bytes of the part are written. The measure is what is left of it.
+use Prim.Native.Nat.{_-_}
+use lib.Seq.{slice}
+use Rattle.lemmas.proofs.Copies.{Copied, copied-length}
+use Rattle.payloads.proofs.Parts.{part-starts, part-room, part-goes-on, part-ends}
 use native.Mathlib.Omega.{arith}
 use borrow.Author.Needs.{needs}
 use Rattle.payloads.proofs.write_part.Statement.{statement}
 use Rattle.payloads.proofs.write_part.Tie as tie
-use Rattle.payloads.proofs.write_part.Reads as reads
-use Rattle.payloads.proofs.write_part.Lts as lts
-use Rattle.described.proofs.span.Reads as span-reads
 
 abbrev Inv-loop : tie.InvT-loop
-Inv-loop bytes from to out₀ n j₀ out j = ?
+Inv-loop bytes from to out₀ n j₀ out j = Copied (slice from to bytes) out₀ j out
 
 abbrev μ-loop : tie.MeasureT-loop
-μ-loop bytes from to out₀ n j₀ out j = ?
+μ-loop bytes from to out₀ n j₀ out j = n - j
 
--- src/lib.rt:23:9
 span-requires : tie.Need-span-requires Inv-loop μ-loop
-span-requires c κs = ?
+span-requires c κs = search needs
 
--- src/lib.rt:25:5
 loop-holds : tie.Need-loop-holds Inv-loop μ-loop
-loop-holds c = ?
+loop-holds c =
+    let p = c .before .before .before .pre in
+    part-starts _ _ _ (p .0) (p .1)
 
--- src/lib.rt:26:24
 add-out : tie.Need-add-out Inv-loop μ-loop
-add-out c = ?
+add-out c = omega (arith, c .loop-test .taken, c .before .before .span .ensures, c .before .before .before .before .before .pre .0)
 
--- src/lib.rt:26:18
 shared-slice-read-out : tie.Need-shared-slice-read-out Inv-loop μ-loop
-shared-slice-read-out c = ?
+shared-slice-read-out c =
+    let b = c .before .before .before in
+    omega (arith, c .before .loop-test .taken, b .span .ensures, b .before .before .before .pre .0)
 
--- src/lib.rt:26:9
 slice-write-out : tie.Need-slice-write-out Inv-loop μ-loop
-slice-write-out c = ?
+slice-write-out c =
+    let b = c .before .before .before in
+    part-room _ _ _ (b .before .before .before .pre .0) (c .before .before .loop .inv) (rw (b .span .ensures) at (c .before .loop-test .taken))
 
--- src/lib.rt:27:9
 add-j : tie.Need-add-j Inv-loop μ-loop
-add-j c = ?
+add-j c = omega arith
 
--- src/lib.rt:25:5
 loop-less : tie.Need-loop-less Inv-loop μ-loop
-loop-less c = ?
+loop-less c = omega arith
 
--- src/lib.rt:25:5
 loop-again : tie.Need-loop-again Inv-loop μ-loop
-loop-again c = ?
+loop-again c =
+    let b = c .before .before .before in
+    part-goes-on _ _ _ (b .before .before .before .pre .0) (c .before .before .loop .inv) (rw (b .span .ensures) at (c .before .loop-test .taken))
 
--- src/lib.rt:19:1
 same-length : tie.Need-same-length Inv-loop μ-loop
-same-length c = ?
+same-length c = copied-length (c .before .loop .inv)
 
--- src/lib.rt:19:1
 returns : tie.Need-returns Inv-loop μ-loop
-returns c = ?
+returns c =
+    let b = c .before .before in
+    part-ends _ _ _ (b .before .before .before .pre .0) (c .before .loop .inv) (rw (b .span .ensures) at (c .loop-test .left))
 
 pub write-part-spec : {M : Type 1} → statement M
 write-part-spec =
