@@ -1,0 +1,2 @@
+-- `RunLaws` is about runs up to a character that ends them.
+pub mod RunLaws
