@@ -1,58 +1,52 @@
+-- `line_comment` reads what the definition's gives: its end and its positions are the definition's.
+use mathlib.Core.Path.{ap, _∙_}
+use Rattle.definition.specs.State.{one-more-comment}
+use Rattle.definition.specs.declared.State.{State}
+use Rattle.soundness.proofs.Moving.{stands-within}
+use Rattle.comments.proofs.Places.{small, asked}
+use Rattle.comments.proofs.ReadLaws.{line-within, line-asked, line-reads}
 use native.Mathlib.Omega.{arith}
 use borrow.Author.Needs.{needs}
 use Rattle.comments.proofs.lines.line_comment.Statement.{statement}
 use Rattle.comments.proofs.lines.line_comment.Tie as tie
-use Rattle.comments.proofs.lines.line_comment.Reads as reads
-use Rattle.comments.proofs.lines.line_comment.Lts as lts
-use Rattle.comments.proofs.lines.one_more_comment.Reads as one-more-comment-reads
-use Rattle.comments.proofs.runs.line_run.Reads as line-run-reads
-use Rattle.definition.proofs.State.advance.Reads as advance-reads
-use Rattle.described.proofs.span.Reads as span-reads
-use Rattle.positions.proofs.pos_of.Reads as pos-of-reads
 
--- src/lines.rt:32:29
 cast-line-run : tie.Need-cast-line-run
 cast-line-run c = search needs
 
--- src/lines.rt:32:9
 line-run-requires : tie.Need-line-run-requires
 line-run-requires c κs = search needs
 
--- src/lines.rt:33:9
 pos-of-requires : tie.Need-pos-of-requires
-pos-of-requires c κs = ?
+pos-of-requires c κs = let h = c .before .before .before .pre .standing in asked _ h (h .stands .sound .order) (stands-within (h .stands))
 
--- src/lines.rt:35:40
 cast-pos-of : tie.Need-cast-pos-of
-cast-pos-of c = ?
+cast-pos-of c = omega (arith, line-within (c .before .before .before .before .before .pre) (c .before .before .line-run .ensures), c .before .before .before .before .before .pre .standing .stands .short)
 
--- src/lines.rt:35:9
 pos-of-requires-2 : tie.Need-pos-of-requires-2
-pos-of-requires-2 c κs = ?
+pos-of-requires-2 c κs =
+    let h = c .before .before .before .before .before .pre in
+    line-asked h (c .before .before .line-run .ensures) (c .before .pos-of .ensures)
 
--- src/lines.rt:36:44
 cast-advance : tie.Need-cast-advance
-cast-advance c = ?
+cast-advance c = omega (arith, line-within (c .before .before .before .before .before .before .pre) (c .before .before .before .line-run .ensures), c .before .before .before .before .before .before .pre .standing .stands .short)
 
--- src/lines.rt:36:33
 advance-requires : tie.Need-advance-requires
 advance-requires c κs = search needs
 
--- src/lines.rt:36:9
 one-more-comment-requires : tie.Need-one-more-comment-requires
-one-more-comment-requires c κs = ?
+one-more-comment-requires c κs = let h = small (c .before .before .before .before .before .before .before .pre .standing .stands) in omega (arith, h .counts, ap (λ (a : State). a .comments) (c .advance .ensures))
 
--- src/lines.rt:43:17
 span-requires : tie.Need-span-requires
 span-requires c κs = search needs
 
--- src/lines.rt:43:17
 cast-t16 : tie.Need-cast-t16
-cast-t16 c = ?
+cast-t16 c = omega (arith, c .span .ensures, line-within (c .before .before .before .before .before .before .before .before .before .before .before .pre) (c .before .before .before .before .before .before .before .before .line-run .ensures), c .before .before .before .before .before .before .before .before .before .before .before .pre .standing .stands .short)
 
--- src/lines.rt:28:1
 returns : tie.Need-returns
-returns c = ?
+returns c =
+    let d = c .before .before .before .before in
+    line-reads (c .before .before .before .before .before .before .before .before .before .before .before .before .pre) (c .before .before .before .before .before .before .before .before .before .line-run .ensures) (c .before .span .ensures) (c .before .before .before .before .before .before .before .before .pos-of .ensures) (c .before .before .before .before .before .before .pos-of2 .ensures)
+    (d .one-more-comment .ensures ∙ ap one-more-comment (d .before .advance .ensures))
 
 pub line-comment-spec : {M : Type 1} → statement M
 line-comment-spec =

@@ -1,74 +1,60 @@
+-- `comment` reads what the definition's gives. The invariant is `Going`: what is still to be read is what was to be read at first. The measure
+-- is what is left of the text.
+use Rattle.progress.proofs.Walks.{rest}
+use Rattle.comments.proofs.Places.{small}
+use Rattle.comments.proofs.LoopLaws.{Going, going-starts, going-on, going-less, closed-ending, closed-reads, over-ending, over-reads}
 use native.Mathlib.Omega.{arith}
 use borrow.Author.Needs.{needs}
 use Rattle.comments.proofs.pieces.comment.Statement.{statement}
 use Rattle.comments.proofs.pieces.comment.Tie as tie
-use Rattle.comments.proofs.pieces.comment.Reads as reads
-use Rattle.comments.proofs.pieces.comment.Lts as lts
-use Rattle.comments.proofs.pieces.comment_turn.Reads as comment-turn-reads
-use Rattle.comments.proofs.pieces.terminate.Reads as terminate-reads
-use Rattle.definition.proofs.State.advance.Reads as advance-reads
 
 abbrev Inv-loop : tie.InvT-loop
-Inv-loop text from here₀ column₀ here column = ?
+Inv-loop text from here₀ column₀ here column = Going text from here₀ here column
 
 abbrev μ-loop : tie.MeasureT-loop
-μ-loop text from here₀ column₀ here column = ?
+μ-loop text from here₀ column₀ here column = rest text (here .offset)
 
--- src/pieces.rt:113:5
 loop-holds : tie.Need-loop-holds Inv-loop μ-loop
-loop-holds c = ?
+loop-holds c = going-starts _ (c .before .pre)
 
--- src/pieces.rt:114:18
 cast-to : tie.Need-cast-to Inv-loop μ-loop
-cast-to c = ?
+cast-to c = search needs
 
--- src/pieces.rt:115:15
 comment-turn-requires : tie.Need-comment-turn-requires Inv-loop μ-loop
-comment-turn-requires c κs = ?
+comment-turn-requires c κs = c .before .loop .inv .inside
 
--- src/pieces.rt:116:24
 enum-known-state : tie.Need-enum-known-state Inv-loop μ-loop
-enum-known-state c = ?
+enum-known-state c = search needs
 
--- src/pieces.rt:113:5
 loop-less : tie.Need-loop-less Inv-loop μ-loop
-loop-less c = ?
+loop-less c = going-less (c .before .before .before .before .before .loop .inv) (c .before .state .given .1) (c .before .before .before .comment-turn .ensures)
 
--- src/pieces.rt:113:5
 loop-again : tie.Need-loop-again Inv-loop μ-loop
-loop-again c = ?
+loop-again c = going-on (c .before .before .before .before .before .loop .inv) (c .before .state .given .1) (c .before .before .before .comment-turn .ensures)
 
--- src/pieces.rt:121:69
 enum-told : tie.Need-enum-told Inv-loop μ-loop
-enum-told c = ?
+enum-told c = search needs
 
--- src/pieces.rt:121:69
 add-advance : tie.Need-add-advance Inv-loop μ-loop
-add-advance c = ?
+add-advance c = let h = small (c .before .before .before .before .before .loop .inv .inside .standing .stands) in omega (arith, h .offset)
 
--- src/pieces.rt:121:56
 advance-requires : tie.Need-advance-requires Inv-loop μ-loop
-advance-requires c κs = ?
+advance-requires c κs = search needs
 
--- src/pieces.rt:121:17
 terminate-requires : tie.Need-terminate-requires Inv-loop μ-loop
-terminate-requires c κs = ?
+terminate-requires c κs = closed-ending (c .before .before .before .before .before .before .loop .inv) (c .before .before .enum-told .given .1) (c .before .before .before .before .comment-turn .ensures) (c .advance .ensures)
 
--- src/pieces.rt:121:17
 returns : tie.Need-returns Inv-loop μ-loop
-returns c = ?
+returns c = closed-reads (c .before .before .before .before .before .before .before .loop .inv) (c .before .before .before .enum-told .given .1) (c .before .before .before .before .before .comment-turn .ensures) (c .before .advance .ensures) (c .terminate .ensures)
 
--- src/pieces.rt:124:17
 enum-told-2 : tie.Need-enum-told-2 Inv-loop μ-loop
-enum-told-2 c = ?
+enum-told-2 c = search needs
 
--- src/pieces.rt:124:17
 terminate-requires-2 : tie.Need-terminate-requires-2 Inv-loop μ-loop
-terminate-requires-2 c κs = ?
+terminate-requires-2 c κs = over-ending (c .before .before .before .before .loop .inv)
 
--- src/pieces.rt:124:17
 returns-2 : tie.Need-returns-2 Inv-loop μ-loop
-returns-2 c = ?
+returns-2 c = over-reads (c .before .before .before .before .before .loop .inv) (c .before .enum-told2 .given .1) (c .before .before .before .comment-turn .ensures) (c .terminate2 .ensures)
 
 pub comment-spec : {M : Type 1} → statement M
 comment-spec =

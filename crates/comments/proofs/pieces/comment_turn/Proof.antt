@@ -1,115 +1,93 @@
+-- `comment_turn` is a call of the definition's `comment`: a law for each of its cases. Offsets lie within the text, so that they fit, and so do
+-- the line and the depth of a sound state.
+use mathlib.Core.Path.{sym, ap, _∙_}
+use Rattle.definition.specs.declared.State.{State}
+use Rattle.progress.proofs.Matches.{newline-ends}
+use Rattle.comments.proofs.Places.{small}
+use Rattle.comments.proofs.TurnLaws.{run-within, after-within, moves-run, moves-open, moves-line, moves-closed, moves-over, moves-after}
 use native.Mathlib.Omega.{arith}
 use borrow.Author.Needs.{needs}
 use Rattle.comments.proofs.pieces.comment_turn.Statement.{statement}
 use Rattle.comments.proofs.pieces.comment_turn.Tie as tie
-use Rattle.comments.proofs.pieces.comment_turn.Reads as reads
-use Rattle.comments.proofs.pieces.comment_turn.Lts as lts
-use Rattle.comments.proofs.runs.after.Reads as after-reads
-use Rattle.comments.proofs.runs.byte_pair.Reads as byte-pair-reads
-use Rattle.comments.proofs.runs.comment_run.Reads as comment-run-reads
-use Rattle.definition.proofs.State.advance.Reads as advance-reads
-use Rattle.definition.proofs.State.deeper.Reads as deeper-reads
-use Rattle.definition.proofs.State.new_line.Reads as new-line-reads
-use Rattle.matchers.proofs.names.match_newline.Reads as match-newline-reads
 
--- src/pieces.rt:35:13
 cast-i : tie.Need-cast-i
 cast-i c = search needs
 
--- src/pieces.rt:36:9
 comment-run-requires : tie.Need-comment-run-requires
 comment-run-requires c κs = search needs
 
--- src/pieces.rt:39:31
 cast-advance : tie.Need-cast-advance
-cast-advance c = ?
+cast-advance c = omega (arith, run-within (c .before .before .before .before .pre) (c .before .comment-run .ensures), c .before .before .before .before .pre .standing .stands .short)
 
--- src/pieces.rt:39:20
 advance-requires : tie.Need-advance-requires
 advance-requires c κs = search needs
 
--- src/pieces.rt:38:9
 returns : tie.Need-returns
-returns c = ?
+returns c = moves-run (c .before .before .before .before .before .pre) (c .before .before .comment-run .ensures) (c .before .if1 .taken) (c .advance .ensures)
 
--- src/pieces.rt:43:8
 byte-pair-requires : tie.Need-byte-pair-requires
 byte-pair-requires c κs = search needs
 
--- src/pieces.rt:45:31
 add-advance : tie.Need-add-advance
-add-advance c = ?
+add-advance c = let h = small (c .before .before .before .before .before .before .before .pre .standing .stands) in omega (arith, h .offset)
 
--- src/pieces.rt:45:20
 advance-requires-2 : tie.Need-advance-requires-2
 advance-requires-2 c κs = search needs
 
--- src/pieces.rt:45:20
 deeper-requires : tie.Need-deeper-requires
-deeper-requires c κs = ?
+deeper-requires c κs = let h = small (c .before .before .before .before .before .before .before .before .pre .standing .stands) in omega (arith, h .counts, ap (λ (a : State). a .depth) (c .advance2 .ensures))
 
--- src/pieces.rt:44:9
 returns-2 : tie.Need-returns-2
-returns-2 c = ?
+returns-2 c = moves-open (c .before .before .before .before .before .before .before .before .before .pre) (c .before .before .before .before .before .before .comment-run .ensures) (c .before .before .before .before .before .if1 .left) (sym (c .before .before .before .before .byte-pair .ensures) ∙ c .before .before .before .if2 .taken) (c .before .advance2 .ensures) (c .deeper .ensures)
 
--- src/pieces.rt:49:28
 match-newline-requires : tie.Need-match-newline-requires
 match-newline-requires c κs = search needs
 
--- src/pieces.rt:49:22
 enum-known-nl : tie.Need-enum-known-nl
 enum-known-nl c = search needs
 
--- src/pieces.rt:51:18
 cast-advance-2 : tie.Need-cast-advance-2
-cast-advance-2 c = ?
+cast-advance-2 c = omega (arith, newline-ends _ _ .at (sym (c .before .before .before .match-newline .ensures) ∙ c .before .nl .given .1) .within, c .before .before .before .before .before .before .before .before .before .before .pre .standing .stands .short)
 
--- src/pieces.rt:55:31
 cast-advance-3 : tie.Need-cast-advance-3
-cast-advance-3 c = ?
+cast-advance-3 c = omega (arith, newline-ends _ _ .at (sym (c .before .before .before .match-newline .ensures) ∙ c .before .nl .given .1) .within, c .before .before .before .before .before .before .before .before .before .before .pre .standing .stands .short)
 
--- src/pieces.rt:55:20
 advance-requires-3 : tie.Need-advance-requires-3
 advance-requires-3 c κs = search needs
 
--- src/pieces.rt:55:20
 new-line-requires : tie.Need-new-line-requires
-new-line-requires c κs = ?
+new-line-requires c κs = let h = small (c .before .before .before .before .before .before .before .before .before .before .before .pre .standing .stands) in omega (arith, h .line, ap (λ (a : State). a .line) (c .advance3 .ensures))
 
--- src/pieces.rt:54:9
 returns-3 : tie.Need-returns-3
-returns-3 c = ?
+returns-3 c =
+    let d = c .before .before .before .before .before in
+    moves-line (c .before .before .before .before .before .before .before .before .before .before .before .before .pre) (c .before .before .before .before .before .before .before .before .before .comment-run .ensures) (c .before .before .before .before .before .before .before .before .if1 .left) (sym (c .before .before .before .before .before .before .before .byte-pair .ensures) ∙ c .before .before .before .before .before .before .if2 .left) (sym (d .match-newline .ensures) ∙ c .before .before .before .nl .given .1) (c .before .advance3 .ensures) (c .new-line .ensures)
 
 enum-told : tie.Need-enum-told
 enum-told c = search needs
 
--- src/pieces.rt:59:8
 byte-pair-requires-2 : tie.Need-byte-pair-requires-2
 byte-pair-requires-2 c κs = search needs
 
--- src/pieces.rt:60:9
 returns-4 : tie.Need-returns-4
-returns-4 c = ?
+returns-4 c = moves-closed (c .before .before .before .before .before .before .before .before .before .before .before .pre) (c .before .before .before .before .before .before .before .before .comment-run .ensures) (c .before .before .before .before .before .before .before .if1 .left) (sym (c .before .before .before .before .before .before .byte-pair .ensures) ∙ c .before .before .before .before .before .if2 .left) (sym (c .before .before .before .before .match-newline .ensures) ∙ c .before .before .enum-told .given .1) (sym (c .before .byte-pair2 .ensures) ∙ c .if3 .taken)
 
--- src/pieces.rt:63:9
 returns-5 : tie.Need-returns-5
-returns-5 c = ?
+returns-5 c = moves-over (c .before .before .before .before .before .before .before .before .before .before .before .before .pre) (c .before .before .before .before .before .before .before .before .before .comment-run .ensures) (c .before .before .before .before .before .before .before .before .if1 .left) (sym (c .before .before .before .before .before .before .before .byte-pair .ensures) ∙ c .before .before .before .before .before .before .if2 .left) (sym (c .before .before .before .before .before .match-newline .ensures) ∙ c .before .before .before .enum-told .given .1) (sym (c .before .before .byte-pair2 .ensures) ∙ c .before .if3 .left) (c .if4 .taken)
 
--- src/pieces.rt:65:9
 after-requires : tie.Need-after-requires
 after-requires c κs = search needs
 
--- src/pieces.rt:67:27
 cast-advance-4 : tie.Need-cast-advance-4
-cast-advance-4 c = ?
+cast-advance-4 c = omega (arith, after-within (c .before .before .before .before .before .before .before .before .before .before .before .before .before .pre) (c .after .ensures), c .before .before .before .before .before .before .before .before .before .before .before .before .before .pre .standing .stands .short)
 
--- src/pieces.rt:67:16
 advance-requires-4 : tie.Need-advance-requires-4
 advance-requires-4 c κs = search needs
 
--- src/pieces.rt:31:1
 returns-6 : tie.Need-returns-6
-returns-6 c = ?
+returns-6 c =
+    moves-after (c .before .before .before .before .before .before .before .before .before .before .before .before .before .before .pre) (c .before .before .before .before .before .before .before .before .before .before .before .comment-run .ensures) (c .before .before .before .before .before .before .before .before .before .before .if1 .left) (sym (c .before .before .before .before .before .before .before .before .before .byte-pair .ensures) ∙ c .before .before .before .before .before .before .before .before .if2 .left) (sym (c .before .before .before .before .before .before .before .match-newline .ensures) ∙ c .before .before .before .before .before .enum-told .given .1) (sym (c .before .before .before .before .byte-pair2 .ensures) ∙ c .before .before .before .if3 .left) (c .before .before .if4 .left) (c .before .after .ensures)
+    (c .advance4 .ensures)
 
 pub comment-turn-spec : {M : Type 1} → statement M
 comment-turn-spec =
