@@ -17,7 +17,7 @@ use trim::trim_width;
 use trim::trimmed_length;
 ghost use mathlib.Core.Path.{_≡_};
 ghost use Rattle.definition.specs.Comment.{terminate, comment};
-ghost use Rattle.comments.specs.Contracts.{InComment, Ending, Moves, ReadsAny};
+ghost use Rattle.comments.specs.Contracts.{InComment, AtStop, AtMark, Ending, Moves, ReadsAny};
 
 // What one call of the source's `comment` comes to: the next call's state, with a column that is known there; or the end of
 // a piece at the state's offset, closed or not.
@@ -27,7 +27,7 @@ pub enum Move {
     Unclosed,
 }
 
-// One call.
+// One call: a run of other characters is passed whole.
 fn comment_turn(text: &[u8], st: State, known: Cache) -> Move
     requires { ⌜ InComment (now text) st known ⌝ }
     ensures { λ r. ⌜ Moves (now (text .entry)) st r ⌝ }
@@ -40,22 +40,37 @@ fn comment_turn(text: &[u8], st: State, known: Cache) -> Move
             known: known,
         };
     }
+    at_stop(text, st, known)
+}
+
+// Where no such run stands, a level may be opened, or a line may end.
+fn at_stop(text: &[u8], st: State, known: Cache) -> Move
+    requires { ⌜ AtStop (now text) st known ⌝ }
+    ensures { λ r. ⌜ Moves (now (text .entry)) st r ⌝ }
+{
+    let i = st.offset as usize;
     if byte_pair(text, i, b'(', b'*') {
         return Move::On {
             state: st.advance(st.offset + 2).deeper(),
             known: known,
         };
     }
-    if let Match::To(nl) = match_newline(text, i) {
-        let known = Cache {
-            off: nl as u32,
-            col: 0,
-        };
-        return Move::On {
-            state: st.advance(nl as u32).new_line(),
-            known: known,
-        };
+    let Match::To(nl) = match_newline(text, i) else {
+        return at_mark(text, st, known);
+    };
+    let bol = nl as u32;
+    Move::On {
+        state: st.advance(bol).new_line(),
+        known: Cache { off: bol, col: 0 },
     }
+}
+
+// Where neither happens, a level may be closed, or the text may end; else a single `(` or `*` is passed.
+fn at_mark(text: &[u8], st: State, known: Cache) -> Move
+    requires { ⌜ AtMark (now text) st known ⌝ }
+    ensures { λ r. ⌜ Moves (now (text .entry)) st r ⌝ }
+{
+    let i = st.offset as usize;
     if byte_pair(text, i, b'*', b')') {
         return Move::Closed;
     }
