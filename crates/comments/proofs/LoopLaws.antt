@@ -3,20 +3,19 @@
 use Prim.Native.Nat.{ℕ, _+_, _<_}
 use mathlib.Core.Path.{_≡_, refl, sym, ap, subst, _∙_}
 use mathlib.Core.Bool.{true, false}
-use lib.ListN.{length}
-use Rattle.definition.specs.Basics.{Bytes, Turn, again, done}
+use Rattle.definition.specs.Basics.{Bytes, Turn, again}
 use Rattle.definition.specs.State.{advance}
 use Rattle.definition.specs.Item.{Step}
 use Rattle.definition.specs.Comment.{terminate, comment-turn, comment}
 use Rattle.definition.specs.declared.State.{State}
 use Rattle.lemmas.proofs.Loops.{says, Leads}
 use Rattle.state.specs.Sound.{Stands}
-use Rattle.positions.specs.declared.Cache.{Cache}
 use Rattle.progress.proofs.Walks.{rest, Clean}
 use Rattle.progress.proofs.Comments.{comment-falls}
 use Rattle.progress.proofs.Fuel.{comment-unroll}
 use Rattle.soundness.proofs.Moving.{stands-clean, stands-within}
 use Rattle.soundness.proofs.Turns.{comment-turn-stands}
+use Rattle.positions.specs.declared.Cache.{Cache}
 use Rattle.described.specs.declared.Read.{Read}
 use Rattle.comments.specs.Contracts.{InComment, Ending, Moves, ReadsAny}
 use Rattle.comments.specs.declared.pieces.Move.{Move}

@@ -1,6 +1,6 @@
 -- Where the readers stand: numbers are small, and a known column stays known while the line does. Rests on the laws of sound states.
 use Prim.Native.Nat.{ℕ, _+_, _-_, _≤_}
-use mathlib.Core.Path.{_≡_, refl, sym, _∙_}
+use mathlib.Core.Path.{_≡_, refl}
 use native.Mathlib.Omega.{arith}
 use lib.ListN.{length}
 use Rattle.definition.specs.Basics.{Bytes}
@@ -9,10 +9,10 @@ use Rattle.definition.specs.State.{advance, new-line, close-comment}
 use Rattle.definition.specs.declared.State.{State}
 use Rattle.lemmas.proofs.Cases.{by-lt}
 use Rattle.state.specs.Sound.{Stands}
+use Rattle.soundness.proofs.Moving.{stands-within}
 use Rattle.positions.specs.Columns.{Known, Asked}
 use Rattle.positions.specs.declared.Cache.{Cache}
 use Rattle.described.specs.Standing.{Standing}
-use Rattle.soundness.proofs.Moving.{stands-within}
 
 -- the numbers of a sound state fit with room
 pub record Small (s : Bytes) (st : State) : Type 0 where
@@ -58,3 +58,6 @@ asked i h p q = record {
   from = p;
   to = q;
 }
+
+pub asked-here : {s : Bytes} {st : State} {known : Cache} → Standing s st known → Asked one-each s st known (st .offset)
+asked-here {s} {st} h = asked (st .offset) h (h .stands .sound .order) (stands-within (h .stands))

@@ -68,19 +68,26 @@ slice-slice i j k s p q r =
     let n : j ≤ length (take k s) = omega (arith, length-take k s) in
     ap (λ (l : Bytes). drop i l ++ slice j k s) (sym (take-take j k s q)) ∙ slice-then-drop i j (take k s) p n
 
+-- where a line's comment may end: behind its start, within the text
+pub record LineEnd (s : Bytes) (st : State) (to : ℕ) : Type 0 where
+  pub on : st .offset ≤ to
+  pub within : to ≤ length s
+  pub fits : to ≤ 1048576
+
 module _ {s : Bytes} {from to : ℕ} {st : State} {known : Cache} (h : Behind s from st known) (e : to ≡ run-end is-newline-char s (st .offset)) where
-  -- A line's comment ends behind its start, within the text.
-  pub line-within : (st .offset ≤ to) × (to ≤ length s)
-  line-within =
+  -- A line's comment ends there.
+  pub line-ends : LineEnd s st to
+  line-ends =
       let w = star-walks (λ c. not (is-newline-char c)) s (st .offset) in
-      (omega (arith, walk-forward w), omega (arith, walk-within w (stands-within (h .standing .stands))))
+      let l : to ≤ length s = omega (arith, walk-within w (stands-within (h .standing .stands))) in
+      record { on = omega (arith, walk-forward w); within = l; fits = omega (arith, h .standing .stands .short) }
 
   -- Its end's column may be asked for, from its start's.
   pub line-asked : {start : Located} → start ≡ located s st (st .offset) → Asked one-each s st (start .known) to
   line-asked p =
-      let w = line-within in
+      let w = line-ends in
       let o = h .standing .stands .sound .order in
-      asked to (record { stands = h .standing .stands; cached = rw p (known-again _ s st (st .offset) o) }) (omega (arith, o, w .0)) (w .1)
+      asked to (record { stands = h .standing .stands; cached = rw p (known-again _ s st (st .offset) o) }) (omega (arith, o, w .on)) (w .within)
 
   -- What is made of its end and its positions is what `line-comment` gives.
   pub line-reads : {n : ℕ} {start end : Located} {next : State}
@@ -96,12 +103,12 @@ module _ {s : Bytes} {from to : ℕ} {st : State} {known : Cache} (h : Behind s 
       })
   unfolding line-comment
   line-reads {n} {start} {end} {next} q a b t name f =
-      let w = line-within in
-      let bytes : lexeme s from to ≡ lexeme s from (st .offset) ++ lexeme s (st .offset) to = sym (slice-slice from (st .offset) to s (h .order) (w .0) (w .1)) in
-      let long : to - from ≡ length (lexeme s from (st .offset) ++ lexeme s (st .offset) to) = sym (length-slice from to s (w .1)) ∙ ap length bytes in
+      let w = line-ends in
+      let bytes : lexeme s from to ≡ lexeme s from (st .offset) ++ lexeme s (st .offset) to = sym (slice-slice from (st .offset) to s (h .order) (w .on) (w .within)) in
+      let long : to - from ≡ length (lexeme s from (st .offset) ++ lexeme s (st .offset) to) = sym (length-slice from to s (w .within)) ∙ ap length bytes in
       rw (← e) record {
         item = rw (q ∙ long, a, b, t) refl;
-        payload = record { is = bytes; long = long; inside = w .1 };
+        payload = record { is = bytes; long = long; inside = w .within };
         next = t;
-        known = rw b (known-same _ refl refl (known-again _ s st to (omega (arith, h .standing .stands .sound .order, w .0))));
+        known = rw b (known-same _ refl refl (known-again _ s st to (omega (arith, h .standing .stands .sound .order, w .on))));
       }

@@ -12,11 +12,11 @@ use Rattle.definition.specs.Matchers.{match-newline}
 use Rattle.definition.specs.State.{advance, new-line, deeper}
 use Rattle.definition.specs.Comment.{run-end, after, comment-stop, comment-turn}
 use Rattle.definition.specs.declared.State.{State}
-use Rattle.definition.specs.declared.Match.the-variants.{To, Nothing}
-use Rattle.positions.specs.declared.Cache.{Cache}
+use Rattle.definition.specs.declared.Match.the-variants.{To}
 use Rattle.progress.proofs.Walks.{walk-within, star-walks}
 use Rattle.progress.proofs.Comments.{after-walks, two-onward}
 use Rattle.soundness.proofs.Moving.{walk-stands}
+use Rattle.positions.specs.declared.Cache.{Cache}
 use Rattle.comments.specs.Contracts.{InComment, AtStop, AtMark, Moves}
 use Rattle.comments.specs.declared.pieces.Move.the-variants.{On, Closed, Unclosed}
 use Rattle.comments.proofs.Places.{small, known-same, known-line}

@@ -1,7 +1,7 @@
 -- `counts` is 1 for a byte that stays.
 use mathlib.Core.Path.{sym, ap, _∙_}
-use Rattle.trim.specs.Trimming.{one-if}
 use borrow.Author.Needs.{needs}
+use Rattle.trim.specs.Trimming.{one-if}
 use Rattle.trim.proofs.counts.Statement.{statement}
 use Rattle.trim.proofs.counts.Tie as tie
 

@@ -1,7 +1,7 @@
 -- `keeps` is the definition's: both go by the same tests.
+use borrow.Author.Needs.{needs}
 use Rattle.lemmas.proofs.Cases.{all-tests}
 use Rattle.trim.specs.Trimming.{keeps}
-use borrow.Author.Needs.{needs}
 use Rattle.trim.proofs.keeps.Statement.{statement}
 use Rattle.trim.proofs.keeps.Tie as tie
 

@@ -1,7 +1,7 @@
 -- `left_after` is the definition's: an equation for each way through it.
 use mathlib.Core.Path.{sym, _∙_}
-use Rattle.trim.proofs.Kept.{left-newline, left-other}
 use borrow.Author.Needs.{needs}
+use Rattle.trim.proofs.Kept.{left-newline, left-other}
 use Rattle.trim.proofs.left_after.Statement.{statement}
 use Rattle.trim.proofs.left_after.Tie as tie
 

@@ -1,8 +1,8 @@
 -- `narrow` is the definition's: an equation for each way through it.
 use mathlib.Core.Path.{sym}
 use borrow.Author.Tests.{eq-eqb, ne-eqb}
-use Rattle.trim.proofs.Widths.{narrow-newline, narrow-decided, narrow-space, narrow-other}
 use borrow.Author.Needs.{needs}
+use Rattle.trim.proofs.Widths.{narrow-newline, narrow-decided, narrow-space, narrow-other}
 use Rattle.trim.proofs.narrow.Statement.{statement}
 use Rattle.trim.proofs.narrow.Tie as tie
 

@@ -2,9 +2,9 @@
 -- the spaces counted are no more than the bytes passed. The measure is what is left of the piece's part of the text.
 use Prim.Native.Nat.{_-_}
 use mathlib.Core.Path.{sym, _∙_}
-use Rattle.trim.proofs.Widths.{width-is, width-none, Going, going-on, going-ends}
 use native.Mathlib.Omega.{arith}
 use borrow.Author.Needs.{needs}
+use Rattle.trim.proofs.Widths.{width-is, width-none, Going, going-on, going-ends}
 use Rattle.trim.proofs.trim_width.Statement.{statement}
 use Rattle.trim.proofs.trim_width.Tie as tie
 

@@ -2,10 +2,10 @@
 -- measure is what is left of the piece's part of the text.
 use Prim.Native.Nat.{ℕ, _+_, _-_}
 use mathlib.Core.Path.{refl, sym, ap, _∙_}
-use Rattle.trim.proofs.Kept.{Counting, counting-starts, counting-on, counting-ends}
-use Rattle.trim.proofs.Trimming.{whole-length}
 use native.Mathlib.Omega.{arith}
 use borrow.Author.Needs.{needs}
+use Rattle.trim.proofs.Kept.{Counting, counting-starts, counting-on, counting-ends}
+use Rattle.trim.proofs.Trimming.{whole-length}
 use Rattle.trim.proofs.trimmed_length.Statement.{statement}
 use Rattle.trim.proofs.trimmed_length.Tie as tie
 

@@ -1,14 +1,14 @@
 -- `write_trimmed` writes the trimmed piece. The invariant is `Writing`: what stays of the bytes passed is written, and what stays of the rest
 -- is the rest of the trimmed piece. The measure is what is left of the piece's part of the text.
-use Rattle.lemmas.proofs.Copies.{copied-length}
 use Prim.Native.Nat.{_-_}
 use mathlib.Core.Path.{refl}
+use native.Mathlib.Omega.{arith}
+use borrow.Author.Needs.{needs}
+use Rattle.lemmas.proofs.Copies.{copied-length}
 use Rattle.described.specs.Described.{trimmed}
 use Rattle.trim.specs.Trimming.{piece}
 use Rattle.trim.proofs.Kept.{kept-is}
 use Rattle.trim.proofs.Writing.{Writing, writing-starts, writing-at, writing-mark, writing-fits, writing-on, writing-ends}
-use native.Mathlib.Omega.{arith}
-use borrow.Author.Needs.{needs}
 use Rattle.trim.proofs.write_trimmed.Statement.{statement}
 use Rattle.trim.proofs.write_trimmed.Tie as tie
 

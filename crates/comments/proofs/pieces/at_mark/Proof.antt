@@ -1,8 +1,8 @@
 -- `at_mark` is a call of the definition's `comment` where no run stands, no level is opened and no line ends.
 use mathlib.Core.Path.{sym, _∙_}
-use Rattle.comments.proofs.TurnLaws.{moves-closed, moves-over, moves-after, after-within}
 use native.Mathlib.Omega.{arith}
 use borrow.Author.Needs.{needs}
+use Rattle.comments.proofs.TurnLaws.{moves-closed, moves-over, moves-after, after-within}
 use Rattle.comments.proofs.pieces.at_mark.Statement.{statement}
 use Rattle.comments.proofs.pieces.at_mark.Tie as tie
 

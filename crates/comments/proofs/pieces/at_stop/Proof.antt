@@ -1,12 +1,12 @@
 -- `at_stop` is a call of the definition's `comment` where no run stands. The line and the depth of a sound state fit, and so does the offset
 -- behind a line end, which lies within the text.
 use mathlib.Core.Path.{sym, ap, _∙_}
+use native.Mathlib.Omega.{arith}
+use borrow.Author.Needs.{needs}
 use Rattle.definition.specs.declared.State.{State}
 use Rattle.progress.proofs.Matches.{newline-ends}
 use Rattle.comments.proofs.Places.{small}
 use Rattle.comments.proofs.TurnLaws.{moves-open, moves-line}
-use native.Mathlib.Omega.{arith}
-use borrow.Author.Needs.{needs}
 use Rattle.comments.proofs.pieces.at_stop.Statement.{statement}
 use Rattle.comments.proofs.pieces.at_stop.Tie as tie
 

@@ -1,10 +1,10 @@
 -- `comment` reads what the definition's gives. The invariant is `Going`: what is still to be read is what was to be read at first. The measure
 -- is what is left of the text.
+use native.Mathlib.Omega.{arith}
+use borrow.Author.Needs.{needs}
 use Rattle.progress.proofs.Walks.{rest}
 use Rattle.comments.proofs.Places.{small}
 use Rattle.comments.proofs.LoopLaws.{Going, going-starts, going-on, going-less, closed-ending, closed-reads, over-ending, over-reads}
-use native.Mathlib.Omega.{arith}
-use borrow.Author.Needs.{needs}
 use Rattle.comments.proofs.pieces.comment.Statement.{statement}
 use Rattle.comments.proofs.pieces.comment.Tie as tie
 
@@ -27,25 +27,36 @@ enum-known-state : tie.Need-enum-known-state Inv-loop μ-loop
 enum-known-state c = search needs
 
 loop-less : tie.Need-loop-less Inv-loop μ-loop
-loop-less c = going-less (c .before .before .before .before .before .loop .inv) (c .before .state .given .1) (c .before .before .before .comment-turn .ensures)
+loop-less c =
+    let d = c .before .before .before in
+    going-less (d .before .before .loop .inv) (c .before .state .given .1) (d .comment-turn .ensures)
 
 loop-again : tie.Need-loop-again Inv-loop μ-loop
-loop-again c = going-on (c .before .before .before .before .before .loop .inv) (c .before .state .given .1) (c .before .before .before .comment-turn .ensures)
+loop-again c =
+    let d = c .before .before .before in
+    going-on (d .before .before .loop .inv) (c .before .state .given .1) (d .comment-turn .ensures)
 
 enum-told : tie.Need-enum-told Inv-loop μ-loop
 enum-told c = search needs
 
 add-advance : tie.Need-add-advance Inv-loop μ-loop
-add-advance c = let h = small (c .before .before .before .before .before .loop .inv .inside .standing .stands) in omega (arith, h .offset)
+add-advance c =
+    let h = small (c .before .before .before .before .before .loop .inv .inside .standing .stands) in
+    omega (arith, h .offset)
 
 advance-requires : tie.Need-advance-requires Inv-loop μ-loop
 advance-requires c κs = search needs
 
 terminate-requires : tie.Need-terminate-requires Inv-loop μ-loop
-terminate-requires c κs = closed-ending (c .before .before .before .before .before .before .loop .inv) (c .before .before .enum-told .given .1) (c .before .before .before .before .comment-turn .ensures) (c .advance .ensures)
+terminate-requires c κs =
+    let d = c .before .before .before .before in
+    closed-ending (d .before .before .loop .inv) (c .before .before .enum-told .given .1) (d .comment-turn .ensures) (c .advance .ensures)
 
 returns : tie.Need-returns Inv-loop μ-loop
-returns c = closed-reads (c .before .before .before .before .before .before .before .loop .inv) (c .before .before .before .enum-told .given .1) (c .before .before .before .before .before .comment-turn .ensures) (c .before .advance .ensures) (c .terminate .ensures)
+returns c =
+    let d = c .before .before .before .before .before in
+    closed-reads (d .before .before .loop .inv) (c .before .before .before .enum-told .given .1) (d .comment-turn .ensures) (c .before .advance .ensures)
+    (c .terminate .ensures)
 
 enum-told-2 : tie.Need-enum-told-2 Inv-loop μ-loop
 enum-told-2 c = search needs
@@ -54,7 +65,9 @@ terminate-requires-2 : tie.Need-terminate-requires-2 Inv-loop μ-loop
 terminate-requires-2 c κs = over-ending (c .before .before .before .before .loop .inv)
 
 returns-2 : tie.Need-returns-2 Inv-loop μ-loop
-returns-2 c = over-reads (c .before .before .before .before .before .loop .inv) (c .before .enum-told2 .given .1) (c .before .before .before .comment-turn .ensures) (c .terminate2 .ensures)
+returns-2 c =
+    let d = c .before .before .before in
+    over-reads (d .before .before .loop .inv) (c .before .enum-told2 .given .1) (d .comment-turn .ensures) (c .terminate2 .ensures)
 
 pub comment-spec : {M : Type 1} → statement M
 comment-spec =

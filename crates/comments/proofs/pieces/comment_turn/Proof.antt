@@ -1,7 +1,7 @@
 -- `comment_turn` is a call of the definition's `comment`: it passes a run, which ends within the text, or is one of the other cases.
-use Rattle.comments.proofs.TurnLaws.{run-within, moves-run, stops}
 use native.Mathlib.Omega.{arith}
 use borrow.Author.Needs.{needs}
+use Rattle.comments.proofs.TurnLaws.{run-within, moves-run, stops}
 use Rattle.comments.proofs.pieces.comment_turn.Statement.{statement}
 use Rattle.comments.proofs.pieces.comment_turn.Tie as tie
 

@@ -1,9 +1,9 @@
 -- `after` is the definition's: both see nothing but what stands at the offset. A character ends within the text, so the sum fits.
 use mathlib.Core.Path.{sym, _∙_}
-use Rattle.text.proofs.Character.{char-read, char-within}
-use Rattle.comments.proofs.RunLaws.{after-char, after-none}
 use native.Mathlib.Omega.{arith}
 use borrow.Author.Needs.{needs}
+use Rattle.text.proofs.Character.{char-read, char-within}
+use Rattle.comments.proofs.RunLaws.{after-char, after-none}
 use Rattle.comments.proofs.runs.after.Statement.{statement}
 use Rattle.comments.proofs.runs.after.Tie as tie
 

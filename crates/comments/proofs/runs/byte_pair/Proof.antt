@@ -1,8 +1,8 @@
 -- `byte_pair` is the conjunction of two tests; where the first passes, the offset after i is at most the text's end.
 use mathlib.Core.Path.{sym, _∙_}
-use Rattle.scan.proofs.ByteLaws.{has-inside}
 use native.Mathlib.Omega.{arith}
 use borrow.Author.Needs.{needs}
+use Rattle.scan.proofs.ByteLaws.{has-inside}
 use Rattle.comments.proofs.runs.byte_pair.Statement.{statement}
 use Rattle.comments.proofs.runs.byte_pair.Tie as tie
 

@@ -1,7 +1,7 @@
 -- `comment_stop` is the definition's: each return is an arm of its test.
+use borrow.Author.Needs.{needs}
 use Rattle.definition.specs.Comment.{comment-stop}
 use Rattle.lemmas.proofs.Cases.{all-tests}
-use borrow.Author.Needs.{needs}
 use Rattle.comments.proofs.runs.comment_stop.Statement.{statement}
 use Rattle.comments.proofs.runs.comment_stop.Tie as tie
 
