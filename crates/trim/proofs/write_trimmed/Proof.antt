@@ -1,10 +1,11 @@
 -- `write_trimmed` writes the trimmed piece. The invariant is `Writing`: what stays of the bytes passed is written, and what stays of the rest
 -- is the rest of the trimmed piece. The measure is what is left of the piece's part of the text.
 use Prim.Native.Nat.{_-_}
-use mathlib.Core.Path.{refl}
+use mathlib.Core.Path.{refl, ap, _∙_}
 use native.Mathlib.Omega.{arith}
+use lib.ListN.{length}
 use borrow.Author.Needs.{needs}
-use Rattle.lemmas.proofs.Copies.{copied-length}
+use Rattle.lemmas.proofs.Over.{length-over}
 use Rattle.described.specs.Described.{trimmed}
 use Rattle.trim.specs.Trimming.{piece}
 use Rattle.trim.proofs.Kept.{kept-is}
@@ -26,8 +27,8 @@ shared-slice-read-b c = omega (arith, c .before .before .before .before .before 
 
 put-requires : tie.Need-put-requires Inv-loop μ-loop
 put-requires c κs =
-    let d = c .before .before .before in
-    writing-fits (writing-at _ _ _ (d .before .before .before .pre .within) (d .loop .inv) (c .before .before .loop-test .taken))
+    let h = c .before .before in
+    writing-fits (writing-at _ _ _ (h .before .before .before .before .pre .within) (h .before .loop .inv) (h .loop-test .taken))
 
 left-after-requires : tie.Need-left-after-requires Inv-loop μ-loop
 left-after-requires c κs = search needs
@@ -40,37 +41,41 @@ loop-less c = omega arith
 
 loop-again : tie.Need-loop-again Inv-loop μ-loop
 loop-again c =
-    let d = c .before .before .before .before .before .before .before in
-    let w = writing-at _ _ _ (d .before .before .before .pre .within) (d .loop .inv) (c .before .before .before .before .before .before .loop-test .taken) in
-    writing-on w (c .before .before .before .put .ensures) (c .left-after .ensures)
+    let g = c .before .before .before in
+    let h = g .before .before .before in
+    let w = writing-at _ _ _ (h .before .before .before .before .pre .within) (h .before .loop .inv) (h .loop-test .taken) in
+    writing-on w (g .put .ensures) (c .left-after .ensures)
 
 put-requires-2 : tie.Need-put-requires-2 Inv-loop μ-loop
 put-requires-2 c κs =
-    let d = c .before .before in
-    writing-fits (writing-mark _ _ _ (d .before .before .before .pre .within) (d .loop .inv) (c .before .loop-test .left))
+    let h = c .before in
+    writing-fits (writing-mark _ _ _ (h .before .before .before .before .pre .within) (h .before .loop .inv) (h .loop-test .left))
 
 left-after-requires-2 : tie.Need-left-after-requires-2 Inv-loop μ-loop
 left-after-requires-2 c κs = search needs
 
 put-requires-3 : tie.Need-put-requires-3 Inv-loop μ-loop
 put-requires-3 c κs =
-    let d = c .before .before .before .before .before .before .before in
-    let w = writing-mark _ _ _ (d .before .before .before .pre .within) (d .loop .inv) (c .before .before .before .before .before .before .loop-test .left) in
-    writing-fits (writing-on w (c .before .before .before .before .put2 .ensures) (c .before .left-after2 .ensures))
-
-same-length : tie.Need-same-length Inv-loop μ-loop
-same-length c =
-    let d = c .before .before .before .before .before .before .before .before .before .before in
-    let w = writing-mark _ _ _ (d .before .before .before .pre .within) (d .loop .inv) (c .before .before .before .before .before .before .before .before .before .loop-test .left) in
-    let v = writing-on w (c .before .before .before .before .before .before .before .put2 .ensures) (c .before .before .before .before .left-after2 .ensures) in
-    copied-length (writing-on v (c .before .before .put3 .ensures) refl .copied)
+    let f = c .before in
+    let g = f .before .before .before in
+    let h = g .before .before in
+    let w = writing-mark _ _ _ (h .before .before .before .before .pre .within) (h .before .loop .inv) (h .loop-test .left) in
+    writing-fits (writing-on w (g .put2 .ensures) (f .left-after2 .ensures))
 
 returns : tie.Need-returns Inv-loop μ-loop
 returns c =
-    let d = c .before .before .before .before .before .before .before .before .before .before in
-    let w = writing-mark _ _ _ (d .before .before .before .pre .within) (d .loop .inv) (c .before .before .before .before .before .before .before .before .before .loop-test .left) in
-    let v = writing-on w (c .before .before .before .before .before .before .before .put2 .ensures) (c .before .before .before .before .left-after2 .ensures) in
-    writing-ends (writing-on v (c .before .before .put3 .ensures) refl)
+    let e = c .before .before in
+    let f = e .before .before in
+    let g = f .before .before .before in
+    let h = g .before .before in
+    let w = writing-mark _ _ _ (h .before .before .before .before .pre .within) (h .before .loop .inv) (h .loop-test .left) in
+    let v = writing-on w (g .put2 .ensures) (f .left-after2 .ensures) in
+    writing-ends (writing-on v (e .put3 .ensures) refl)
+
+same-length : tie.Need-same-length Inv-loop μ-loop
+same-length c =
+    ap length (returns c)
+    ∙ length-over _ _ (c .before .before .before .before .before .before .before .before .before .before .before .before .before .pre .room)
 
 pub write-trimmed-spec : {M : Type 1} → statement M
 write-trimmed-spec =
