@@ -12,7 +12,8 @@ use Rattle.described.specs.Described.{trimmed}
 use Rattle.trim.specs.Trimming.{piece}
 use Rattle.trim.proofs.Pieces.{piece-length}
 use Rattle.trim.proofs.Widths.{width-is, width-none}
-use Rattle.trim.proofs.Kept.{kept-is, kept-all, kept-shorter}
+use Rattle.trim.proofs.Kept.{kept-all, kept-shorter}
+use Rattle.trim.proofs.Lines.{kept-is}
 
 -- Where lines lose nothing nothing changes.
 pub trimmed-none : (l : Bytes) → trimmed 0 l ≡ l

@@ -4,7 +4,7 @@ use Prim.Native.Nat.{ℕ, _+_, _-_}
 use mathlib.Core.Path.{refl, sym, ap, _∙_}
 use native.Mathlib.Omega.{arith}
 use borrow.Author.Needs.{needs}
-use Rattle.trim.proofs.Kept.{Counting, counting-starts, counting-on, counting-ends}
+use Rattle.trim.proofs.Counting.{Counting, counting-starts, counting-on, counting-ends}
 use Rattle.trim.proofs.Trimming.{whole-length}
 use Rattle.trim.proofs.trimmed_length.Statement.{statement}
 use Rattle.trim.proofs.trimmed_length.Tie as tie

@@ -8,13 +8,14 @@ use borrow.Author.Needs.{needs}
 use Rattle.lemmas.proofs.Over.{length-over}
 use Rattle.described.specs.Described.{trimmed}
 use Rattle.trim.specs.Trimming.{piece}
-use Rattle.trim.proofs.Kept.{kept-is}
+use Rattle.trim.proofs.Lines.{kept-is}
 use Rattle.trim.proofs.Writing.{Writing, writing-starts, writing-at, writing-mark, writing-fits, writing-on, writing-ends}
 use Rattle.trim.proofs.write_trimmed.Statement.{statement}
 use Rattle.trim.proofs.write_trimmed.Tie as tie
 
 abbrev Inv-loop : tie.InvT-loop
-Inv-loop text from to width out₀ length₀ left₀ at₀ out length left at = Writing (trimmed width (piece text from to)) out₀ width left (piece text at to) length out
+Inv-loop text from to width out₀ length₀ left₀ at₀ out length left at =
+    Writing (trimmed width (piece text from to)) out₀ width left (piece text at to) length out
 
 abbrev μ-loop : tie.MeasureT-loop
 μ-loop text from to width out₀ length₀ left₀ at₀ out length left at = to - at
