@@ -38,7 +38,9 @@ module _ {s : Bytes} {from : ℕ} {first st : State} {known : Cache} (g : Going 
 
   -- what a call keeps
   keeps : {b : State} → comment-turn s from st ≡ again b → Stands s b × (b .mode ≡ 1)
-  keeps e = subst (Leads (λ b. Stands s b × (b .mode ≡ 1)) (λ t. Stands s (t .next))) e (comment-turn-stands s from st (g .inside .standing .stands) (g .inside .mode))
+  keeps e =
+      let h = comment-turn-stands s from st (g .inside .standing .stands) (g .inside .mode) in
+      subst (Leads (λ b. Stands s b × (b .mode ≡ 1)) (λ t. Stands s (t .next))) e h
 
   module _ {m : Move} {b : State} {k : Cache} (on : m ≡ On b k) (moved : Moves s st m) where
     told : Moves s st (On b k)
@@ -77,5 +79,6 @@ module _ {s : Bytes} {from : ℕ} {first st : State} {known : Cache} (g : Going 
   pub over-ending : Ending s (st .offset) st known
   over-ending = record { standing = g .inside .standing; within = stands-within (g .inside .standing .stands) }
 
-  pub over-reads : {m : Move} {r : Read} → m ≡ Unclosed → Moves s st m → ReadsAny s (terminate s from (st .offset) false st) r → ReadsAny s (comment s from first) r
+  pub over-reads : {m : Move} {r : Read} → m ≡ Unclosed → Moves s st m → ReadsAny s (terminate s from (st .offset) false st) r
+      → ReadsAny s (comment s from first) r
   over-reads {m} {r} e moved h = rw (called (subst (Moves s st) e moved from)) h

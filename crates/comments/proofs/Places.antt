@@ -35,7 +35,8 @@ small {s} {st} h =
 -- ---- columns
 
 -- A state on the same line knows the same columns.
-pub known-same : {s : Bytes} {st : State} {known : Cache} (b : State) → b .bol ≡ st .bol → b .column ≡ st .column → Known one-each s st known → Known one-each s b known
+pub known-same : {s : Bytes} {st : State} {known : Cache} (b : State) → b .bol ≡ st .bol → b .column ≡ st .column → Known one-each s st known
+    → Known one-each s b known
 unfolding col-by
 known-same b p q k = record { after = rw p (k .after); column = rw (p, q) (k .column) }
 
@@ -47,7 +48,8 @@ known-line s st i = let z : i - i ≡ 0 = omega arith in record { after = omega 
 -- Closing a level leaves the line as it is.
 pub known-close : {s : Bytes} {st : State} {known : Cache} → Known one-each s st known → Known one-each s (close-comment st) known
 unfolding close-comment
-known-close {s} {st} {known} k = by-lt (λ b. Known one-each s b known) 1 (st .depth) (λ _. known-same _ refl refl k) (λ _. known-same _ refl refl k)
+known-close {s} {st} {known} k =
+    by-lt (λ b. Known one-each s b known) 1 (st .depth) (λ _. known-same _ refl refl k) (λ _. known-same _ refl refl k)
 
 -- A column of the line may be asked for.
 pub asked : {s : Bytes} {st : State} {known : Cache} (i : ℕ) → Standing s st known → st .bol ≤ i → i ≤ length s → Asked one-each s st known i

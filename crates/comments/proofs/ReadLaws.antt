@@ -104,8 +104,10 @@ module _ {s : Bytes} {from to : ℕ} {st : State} {known : Cache} (h : Behind s 
   unfolding line-comment
   line-reads {n} {start} {end} {next} q a b t name f =
       let w = line-ends in
-      let bytes : lexeme s from to ≡ lexeme s from (st .offset) ++ lexeme s (st .offset) to = sym (slice-slice from (st .offset) to s (h .order) (w .on) (w .within)) in
-      let long : to - from ≡ length (lexeme s from (st .offset) ++ lexeme s (st .offset) to) = sym (length-slice from to s (w .within)) ∙ ap length bytes in
+      let bytes : lexeme s from to ≡ lexeme s from (st .offset) ++ lexeme s (st .offset) to =
+      sym (slice-slice from (st .offset) to s (h .order) (w .on) (w .within)) in
+      let long : to - from ≡ length (lexeme s from (st .offset) ++ lexeme s (st .offset) to) =
+      sym (length-slice from to s (w .within)) ∙ ap length bytes in
       rw (← e) record {
         item = rw (q ∙ long, a, b, t) refl;
         payload = record { is = bytes; long = long; inside = w .within };

@@ -115,7 +115,10 @@ unfolding split-lines width-of trim-width empty-prefix
 lines-width m [] = refl
 lines-width m (b ∷ l) =
     by-test (λ ls. lines-from m ls ≡ width-of (narrow m b) l) (eqb b (ch "\n"))
-    (λ e. lines-all (m .width) (split-lines l) ∙ ap (λ (n : Margin). lines-from n (split-lines l)) (sym (narrow-newline m b e)) ∙ lines-width (narrow m b) l)
+    (λ e.
+    lines-all (m .width) (split-lines l)
+    ∙ ap (λ (n : Margin). lines-from n (split-lines l)) (sym (narrow-newline m b e))
+    ∙ lines-width (narrow m b) l)
     (λ e. lines-onto m b (split-lines l) e ∙ lines-width (narrow m b) l)
 
 -- ---- the width of a piece
@@ -143,7 +146,8 @@ width-none m (b ∷ l) z = width-none (narrow m b) l (stays m b z)
         (λ q. rw (narrow-other m b e h q) (omega arith))))
 
 -- Within the piece's part of the text, the byte there narrows the margin.
-width-on : (s : Bytes) (m : Margin) (at to : ℕ) → at < to → to ≤ length s → width-of m (piece s at to) ≡ width-of (narrow m (getD s at 0)) (piece s (at + 1) to)
+width-on : (s : Bytes) (m : Margin) (at to : ℕ) → at < to → to ≤ length s
+    → width-of m (piece s at to) ≡ width-of (narrow m (getD s at 0)) (piece s (at + 1) to)
 unfolding width-of
 width-on s m at to h k = ap (width-of m) (piece-cons at to s h k)
 
@@ -169,8 +173,8 @@ pub record Going (s : Bytes) (from to column : ℕ) (m : Margin) (at : ℕ) : Ty
   pub same : width-of m (piece s at to) ≡ trim-width column (split-lines (piece s from to))
   pub few : m .spaces ≤ at
 
-pub going-on : {s : Bytes} {from to column at : ℕ} {m n : Margin} → to ≤ length s → at < to → Going s from to column m at → n ≡ narrow m (getD s at 0)
-    → Going s from to column n (at + 1)
+pub going-on : {s : Bytes} {from to column at : ℕ} {m n : Margin} → to ≤ length s → at < to → Going s from to column m at
+    → n ≡ narrow m (getD s at 0) → Going s from to column n (at + 1)
 going-on {s} {from} {to} {column} {at} {m} {n} k h g e =
     rw e record { same = sym (width-on s m at to h k) ∙ g .same; few = omega (arith, narrow-spaces m (getD s at 0), g .few) }
 

@@ -38,14 +38,16 @@ module _ {bs before : Bytes} {width : ℕ} where
     writing-fits e = omega (arith, some-left e, w .copied .room, copied-length (w .copied))
 
     -- Behind it there is a byte less to come.
-    pub writing-on : {after′ : Bytes} {m d : ℕ} → Puts (keeps left b) b n after after′ m → d ≡ left-after width left b → Writing bs before width d coming m after′
+    pub writing-on : {after′ : Bytes} {m d : ℕ} → Puts (keeps left b) b n after after′ m → d ≡ left-after width left b
+        → Writing bs before width d coming m after′
     writing-on {after′} {m} {d} p q = rw q (by-outcome (keeps left b) stays goes)
       where
         stays : keeps left b ≡ true → Writing bs before width (left-after width left b) coming m after′
         stays e =
             let a : after′ ≡ set after n b = rw e at (p .bytes) in
             let k : m ≡ n + 1 = rw e at (p .next) in
-            let l : getD bs n 0 ≡ b = ap (λ (i : ℕ). getD bs i 0) (sym (add-zero n)) ∙ sym (getD-drop n bs 0 0) ∙ ap (λ (l : Bytes). getD l 0 0) (next e) in
+            let l : getD bs n 0 ≡ b =
+            ap (λ (i : ℕ). getD bs i 0) (sym (add-zero n)) ∙ sym (getD-drop n bs 0 0) ∙ ap (λ (l : Bytes). getD l 0 0) (next e) in
             rw (a, k) record {
               copied = copied-goes-on (w .copied) (some-left e) (sym l);
               others = sym (drop-drop 1 n bs) ∙ ap (drop 1) (next e);

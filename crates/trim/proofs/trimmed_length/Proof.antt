@@ -56,7 +56,8 @@ loop-less c = omega arith
 loop-again : tie.Need-loop-again Inv-loop μ-loop
 loop-again c =
     let d = c .before .before .before .before .before in
-    counting-on (d .before .before .before .pre) (d .loop .inv) (c .before .before .before .before .loop-test .taken) (c .before .before .counts .ensures) (c .left-after .ensures)
+    counting-on (d .before .before .before .pre) (d .loop .inv) (c .before .before .before .before .loop-test .taken)
+    (c .before .before .counts .ensures) (c .left-after .ensures)
 
 span-requires-2 : tie.Need-span-requires-2 Inv-loop μ-loop
 span-requires-2 c κs = search needs

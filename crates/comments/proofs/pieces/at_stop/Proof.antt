@@ -32,7 +32,8 @@ deeper-requires c κs =
 returns : tie.Need-returns
 returns c =
     let d = c .before .before .before in
-    moves-open (d .before .before .before .before .pre) (sym (d .before .byte-pair .ensures) ∙ d .if1 .taken) (c .before .advance .ensures) (c .deeper .ensures)
+    moves-open (d .before .before .before .before .pre) (sym (d .before .byte-pair .ensures) ∙ d .if1 .taken)
+    (c .before .advance .ensures) (c .deeper .ensures)
 
 match-newline-requires : tie.Need-match-newline-requires
 match-newline-requires c κs = search needs

@@ -34,8 +34,9 @@ is-newline-char-requires c κs = search needs
 
 returns : tie.Need-returns Inv-loop μ-loop
 returns c =
-    let d = c .before .before .before .before in
-    run-stops-byte (d .before .before .loop .inv) (d .before .loop-test .taken) (c .before .before .before .if1 .taken) (sym (c .before .is-newline-char .ensures) ∙ c .if2 .taken)
+    let d = c .before .before .before in
+    let e = d .before .before in
+    run-stops-byte (e .before .loop .inv) (e .loop-test .taken) (d .if1 .taken) (sym (c .before .is-newline-char .ensures) ∙ c .if2 .taken)
 
 add-j : tie.Need-add-j Inv-loop μ-loop
 add-j c = omega arith
@@ -45,8 +46,9 @@ loop-less c = omega arith
 
 loop-again : tie.Need-loop-again Inv-loop μ-loop
 loop-again c =
-    let d = c .before .before .before .before in
-    run-passes-byte (d .before .before .loop .inv) (d .before .loop-test .taken) (c .before .before .before .if1 .taken) (sym (c .before .is-newline-char .ensures) ∙ c .if2 .left)
+    let d = c .before .before .before in
+    let e = d .before .before in
+    run-passes-byte (e .before .loop .inv) (e .loop-test .taken) (d .if1 .taken) (sym (c .before .is-newline-char .ensures) ∙ c .if2 .left)
 
 sequence-at-requires : tie.Need-sequence-at-requires Inv-loop μ-loop
 sequence-at-requires c κs = search needs
@@ -62,23 +64,25 @@ is-newline-char-requires-2 c κs = search needs
 
 returns-3 : tie.Need-returns-3 Inv-loop μ-loop
 returns-3 c =
-    let d = c .before .before .before .before .before in
-    run-stops (c .before .before .before .before .before .before .before .before .before .loop .inv) (sym (d .sequence-at .ensures) ∙ c .before .before .before .c .given .1) (sym (c .before .is-newline-char2 .ensures) ∙ c .if3 .taken)
+    let d = c .before .before .before in
+    let e = d .before .before in
+    run-stops (e .before .before .before .before .loop .inv) (sym (e .sequence-at .ensures) ∙ d .c .given .1) (sym (c .before .is-newline-char2 .ensures) ∙ c .if3 .taken)
 
 add-j-2 : tie.Need-add-j-2 Inv-loop μ-loop
 add-j-2 c =
-    let d = c .before .before .before .before .before in
-    omega (arith, char-within (char-read (sym (d .sequence-at .ensures) ∙ c .before .before .before .c .given .1)))
+    let d = c .before .before .before in
+    omega (arith, char-within (char-read (sym (d .before .before .sequence-at .ensures) ∙ d .c .given .1)))
 
 loop-less-2 : tie.Need-loop-less-2 Inv-loop μ-loop
 loop-less-2 c =
-    let d = c .before .before .before .before .before in
-    omega (arith, char-within (char-read (sym (d .sequence-at .ensures) ∙ c .before .before .before .c .given .1)))
+    let d = c .before .before .before in
+    omega (arith, char-within (char-read (sym (d .before .before .sequence-at .ensures) ∙ d .c .given .1)))
 
 loop-again-2 : tie.Need-loop-again-2 Inv-loop μ-loop
 loop-again-2 c =
-    let d = c .before .before .before .before .before in
-    run-passes (c .before .before .before .before .before .before .before .before .before .loop .inv) (sym (d .sequence-at .ensures) ∙ c .before .before .before .c .given .1) (sym (c .before .is-newline-char2 .ensures) ∙ c .if3 .left)
+    let d = c .before .before .before in
+    let e = d .before .before in
+    run-passes (e .before .before .before .before .loop .inv) (sym (e .sequence-at .ensures) ∙ d .c .given .1) (sym (c .before .is-newline-char2 .ensures) ∙ c .if3 .left)
 
 returns-4 : tie.Need-returns-4 Inv-loop μ-loop
 returns-4 c = run-over (c .before .loop .inv) (c .loop-test .left)
