@@ -1,3 +1,4 @@
 pub mod Tables
 mod Cases
 mod Limits
+pub mod Samples

@@ -22,6 +22,7 @@ pub mod Run
 pub mod Listed
 pub mod Regex
 pub mod Patterns
+pub mod Samples
 pub mod Longest
 pub mod Reading
 pub mod Cases
