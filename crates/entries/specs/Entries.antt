@@ -1,7 +1,5 @@
 -- The entries of the tables by which a word decides its token, one table behind the other, and the texts of their tokens.
-use Prim.Native.Nat.{ℕ}
 use mathlib.Core.List.{List, [], _∷_, _++_, map}
-use lib.ListN.{take, replicate}
 use Rattle.definition.specs.Basics.{Bytes}
 use Rattle.definition.specs.Tables.{Entry, cps, keywords, constructors, uoperators, op-tokens, mixfix-rules}
 
@@ -11,7 +9,3 @@ entries = keywords ++ (constructors ++ (uoperators ++ (op-tokens ++ mixfix-rules
 -- the entries' texts, and that of the token `<`
 unfoldable pub texts : List Bytes
 texts = map (λ (e : Entry). cps (e .2)) entries ++ (cps "<" ∷ [])
-
--- texts in rows of seven bytes
-abbrev pub padded : List Bytes → List Bytes
-padded ts = map (λ (t : Bytes). take 7 (t ++ replicate 7 0)) ts

@@ -1,15 +1,11 @@
 -- The invariant is `Copied`: the first j bytes of the text are written. The measure is what is left of it.
 use Prim.Native.Nat.{_-_, _<_}
-use mathlib.Core.Path.{refl, sym, _∙_}
 use mathlib.Core.List.{[]}
 use native.Mathlib.Omega.{arith}
-use lib.ListN.{length, getD, length-set}
+use lib.ListN.{length, getD}
 use borrow.Author.Needs.{needs}
-use Rattle.definition.specs.Utf8.{encode, encode-all}
-use Rattle.definition.specs.Tables.{cps, keywords, constructors, uoperators, op-tokens, mixfix-rules}
 use Rattle.lemmas.proofs.Copies.{Copied, copied-starts, copied-goes-on, copied-ends, copied-length}
-use Rattle.entries.specs.Entries.{entries, texts}
-use Rattle.entries.proofs.TextLaws.{short-at, row-byte}
+use Rattle.entries.specs.Entries.{texts}
 use Rattle.entries.proofs.text_into.Statement.{statement}
 use Rattle.entries.proofs.text_into.Tie as tie
 
@@ -26,12 +22,8 @@ loop-holds : tie.Need-loop-holds Inv-loop μ-loop
 loop-holds c = copied-starts _ _ (c .before .before .pre .1)
 
 text-byte-requires : tie.Need-text-byte-requires Inv-loop μ-loop
-unfolding texts entries keywords constructors uoperators op-tokens mixfix-rules cps encode-all encode
 text-byte-requires c κs =
-    let k = c .before .before .before .before .args .k in
-    let h : c .before .loop .j < 7 =
-    omega (arith, c .loop-test .taken, c .before .before .text-length .ensures, short-at texts refl k) in
-    (c .before .before .before .before .pre .0, h)
+    (c .before .before .before .before .pre .0, omega (arith, c .loop-test .taken, c .before .before .text-length .ensures))
 
 slice-write-out : tie.Need-slice-write-out Inv-loop μ-loop
 slice-write-out c =
@@ -45,12 +37,11 @@ loop-less : tie.Need-loop-less Inv-loop μ-loop
 loop-less c = omega arith
 
 loop-again : tie.Need-loop-again Inv-loop μ-loop
-unfolding texts entries keywords constructors uoperators op-tokens mixfix-rules cps encode-all encode
 loop-again c =
     let k = c .before .before .before .before .before .args .k in
     let h : c .before .before .loop .j < length (getD texts k []) =
     omega (arith, c .before .loop-test .taken, c .before .before .before .text-length .ensures) in
-    copied-goes-on (c .before .before .loop .inv) h (c .text-byte .ensures ∙ row-byte texts refl k _ h)
+    copied-goes-on (c .before .before .loop .inv) h (c .text-byte .ensures)
 
 same-length : tie.Need-same-length Inv-loop μ-loop
 same-length c = copied-length (c .before .loop .inv)
