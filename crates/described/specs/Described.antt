@@ -4,7 +4,7 @@ use Prim.Native.Nat.{ℕ, _+_, _-_, _≤_, _<_}
 use mathlib.Core.Path.{_≡_}
 use mathlib.Core.List.{[], _∷_, _++_, map}
 use lib.ListN.{length, getD, drop}
-use Rattle.definition.specs.Basics.{Bytes, ch}
+use Rattle.definition.specs.Basics.{Bytes, ch, Turn, again, done}
 use Rattle.definition.specs.Text.{lexeme}
 use Rattle.definition.specs.Tables.{cps}
 use Rattle.definition.specs.Numbers.{show}
@@ -15,6 +15,11 @@ use Rattle.definition.specs.Item.{Step}
 use Rattle.definition.specs.Strings.{string-lit}
 use Rattle.entries.specs.Entries.{texts}
 use Rattle.positions.specs.Columns.{Known}
+use Rattle.positions.specs.declared.Cache.{Cache}
+use Rattle.definition.specs.declared.State.{State}
+use Rattle.described.specs.declared.Place.{Place}
+use Rattle.described.specs.declared.Turned.{Turned}
+use Rattle.described.specs.declared.Turned.the-variants.{Done, Again}
 use Rattle.described.specs.declared.Payload.{Payload}
 use Rattle.described.specs.declared.Payload.the-variants.{Part, Text, Greater, Name, Line, FileLine, Literal, Piece, Blob}
 use Rattle.described.specs.declared.Read.{Read}
@@ -80,15 +85,31 @@ pub record Measurable (name : Bytes) (p : Payload) : Type 0 where
   pub listed : Listed p
   pub small : length-of name p < 18446744073709551616
 
+-- a description whose length is a number of 32 bits
+pub record Sized (name : Bytes) (p : Payload) : Type 0 where
+  pub listed : Listed p
+  pub small : length-of name p < 4294967296
+
 -- p describes these bytes
 pub record Describes (s name f : Bytes) (p : Payload) (bytes : Bytes) : Type 0 where
   pub is : bytes-of s name f p ≡ bytes
   pub long : length-of name p ≡ length bytes
   pub inside : Inside s p
 
+-- the lexer's own columns, of which one is known
+abbrev pub Known-at : Bytes → State → Cache → Type 0
+Known-at s st known = Known one-each s st known
+
 -- r is what the step t of the definition gives, and a column that is known after it
 pub record Reads (s name f : Bytes) (t : Step) (r : Read) : Type 0 where
   pub item : r .item ≡ t .item
   pub payload : Describes s name f (r .payload) (t .payload)
   pub next : r .next ≡ t .next
-  pub known : Known one-each s (t .next) (r .known)
+  pub known : Known-at s (t .next) (r .known)
+
+-- a turn of a reader: it goes on from a state with a column that is known there, or it has read what the definition's turn answers
+abbrev pub Turns : Bytes → Bytes → Bytes → Turn State Step → Turned → Type 0
+Turns s name f (again b) (Again place) = (place .st ≡ b) × Known-at s b (place .known)
+Turns s name f (again b) (Done r) = ⊥
+Turns s name f (done t) (Again place) = ⊥
+Turns s name f (done t) (Done r) = Reads s name f t r

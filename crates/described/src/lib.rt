@@ -4,6 +4,9 @@
 // Proved: the length of a description is the definition's `length-of`; what bytes a description stands for is the
 // definition `bytes-of`, and those who answer a description prove that it describes the payload (`Describes`).
 // Assumed: nothing but what each function's `requires` says.
+pub mod places; // places.rt: where a reader stands after it reads on
+pub mod tokens; // tokens.rt: tokens and errors as readers answer them
+
 use definition::Item;
 use definition::State;
 use entries::text_length;
@@ -60,6 +63,18 @@ pub struct Read {
     pub payload: Payload,
     pub next: State,
     pub known: Cache,
+}
+
+// Where a reader stands: a state, and a column that is known there.
+pub struct Place {
+    pub st: State,
+    pub known: Cache,
+}
+
+// What a turn of a reader answers: what it has read, or where it goes on.
+pub enum Turned {
+    Done(Read),
+    Again(Place),
 }
 
 // How many bytes there are from `from` up to `to`.

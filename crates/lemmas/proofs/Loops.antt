@@ -16,19 +16,24 @@ abbrev pub Leads : {A R : Type 0} → (A → Type 0) → (R → Type 0) → Turn
 Leads P Q (again b) = P b
 Leads P Q (done r) = Q r
 
+-- nothing is asked
+abbrev pub Any : {A : Type 0} → A → Type 0
+Any a = Unit {0}
+
 -- more is kept of a turn
 pub leads-map : {A R : Type 0} {P P′ : A → Type 0} {Q Q′ : R → Type 0} → ((a : A) → P a → P′ a) → ((r : R) → Q r → Q′ r)
     → (t : Turn A R) → Leads P Q t → Leads P′ Q′ t
 leads-map f g (again b) h = f b h
 leads-map f g (done r) h = g r h
 
+-- two things are kept of what a turn calls itself with
+pub leads-both : {A R : Type 0} (P P′ : A → Type 0) (Q Q′ : R → Type 0) (t : Turn A R) → Leads P Q t → Leads P′ Q′ t → Leads (λ a. P a × P′ a) Any t
+leads-both P P′ Q Q′ (again b) h k = (h, k)
+leads-both P P′ Q Q′ (done r) h k = tt
+
 -- from where P holds, each further call keeps P and lowers the measure m, and each answer is a Q
 pub record Falls {A R : Type 0} (turn : A → Turn A R) (P : A → Type 0) (m : A → ℕ) (Q : R → Type 0) : Type 0 where
   pub at : (a : A) → P a → Leads (λ b. P b × (m b < m a)) Q (turn a)
-
--- nothing is asked
-abbrev pub Any : {A : Type 0} → A → Type 0
-Any a = Unit {0}
 
 module _ {A R : Type 0} (turn : A → Turn A R) where
   -- with a call left, a loop is what its turn says of the calls after it

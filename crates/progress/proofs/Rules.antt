@@ -41,7 +41,7 @@ texts-small (e ∷ es) = leb (length (cps (e .2))) 100 && texts-small es
 pub data Shape (s name f : Bytes) : ℕ → Rule → Type 0 where
   -- a token without a payload, or with one that its table or the definition has
   fixed-rule : {k : ℕ} (kinds : ℕ → ℕ) → Shape s name f k (λ st e w. finish s st e (kinds w) [])
-  text-rule : {k : ℕ} (x : String) (t : String) → Shape s name f k (λ st e w. finish s st e (kind x) (cps t))
+  text-rule : {k : ℕ} (x : String) (t : String) → length (cps t) ≤ 100 → Shape s name f k (λ st e w. finish s st e (kind x) (cps t))
   table-rule : {k : ℕ} → Shape s name f k (λ st e w. finish-entry s st e (entry op-tokens w))
   -- a token whose payload is the name, the line, or both
   file-rule : Shape s name f file-place (λ st e w. finish s st e (kind "STRING") name)
@@ -110,7 +110,7 @@ module _ (s name f : Bytes) where
       ⨟ fixed-rule _
       ⨟ fixed-rule _
       ⨟ table-rule
-      ⨟ text-rule "OPINFIX0c" "<"
+      ⨟ text-rule "OPINFIX0c" "<" (omega arith)
       ⨟ gt-rule
       ⨟ op-rule "OPINFIX3R"
       ⨟ op-rule "OPINFIX4"

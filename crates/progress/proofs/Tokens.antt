@@ -122,7 +122,7 @@ module _ (s : Bytes) where
     -- what each shape of rules does
     shape-says : (k : ℕ) (r : Rule) → Shape s name f k r → Does k r
     shape-says k r (fixed-rule kinds) st e w c = finish-says st e (c .onward) _ _
-    shape-says k r (text-rule x t) st e w c = finish-says st e (c .onward) _ _
+    shape-says k r (text-rule x t small) st e w c = finish-says st e (c .onward) _ _
     shape-says k r table-rule st e w c = finish-says st e (c .onward) _ _
     shape-says k r file-rule st e w c = finish-says st e (c .onward) _ _
     shape-says k r line-rule st e w c = finish-says st e (c .onward) _ _

@@ -2,3 +2,4 @@
 -- runs.
 pub mod ByteLaws
 pub mod RunLaws
+pub mod StopLaws

@@ -17,6 +17,7 @@ use Rattle.definition.specs.Utf8.{encode, sequence-at}
 use Rattle.definition.specs.Text.{with-char, byte-has, star}
 use Rattle.definition.specs.Chars.{ascii-limit, ascii-table, in-table, op-char-cps, symbolchar-cps, is-op-char, is-symbolchar}
 use Rattle.definition.specs.Matchers.{only, one, plus}
+use Rattle.definition.specs.Comment.{after}
 use Rattle.definition.specs.declared.Sequence.{Sequence}
 use Rattle.definition.proofs.Sequence.{the-type}
 use Rattle.definition.specs.declared.Sequence.the-variants.{Char, Bad, End}
@@ -171,3 +172,15 @@ module _ (p : ℕ → Bool) (small : Small p) (s : Bytes) (i : ℕ) where
               false≢true (sym e ∙ yes)
       go Bad q = star-none p s i (rw q tt)
       go End q = star-none p s i (rw q tt)
+
+-- ---- the offset after a character
+
+-- Behind a character it is its end.
+pub after-char : (s : Bytes) (i : ℕ) {c w : ℕ} → sequence-at s i ≡ Char c w → i + w ≡ after s i
+unfolding after
+after-char s i {c} {w} e = sym (ap (λ (t : Sequence). with-char t i (λ c j. j) i) e)
+
+-- Where the code's answer is no character it is the offset itself.
+pub after-none : (s : Bytes) (i : ℕ) {q : Sequence} → q ≡ sequence-at s i → OneOf (1 ∷ 2 ∷ []) (tagOf the-type q) → i ≡ after s i
+unfolding after
+after-none s i {q} e h = sym (with-none (sequence-at s i) i _ i (subst No-char e (no-char q h)))

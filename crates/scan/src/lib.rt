@@ -8,3 +8,4 @@
 
 pub mod bytes; // bytes.rt: single bytes, literals, and the later of two ends
 pub mod runs; // runs.rt: runs of characters that pass a test
+pub mod stops; // stops.rt: runs up to one of some characters

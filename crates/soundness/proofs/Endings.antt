@@ -152,7 +152,7 @@ module _ (s : Bytes) where
     shape-ends : (k : ℕ) (r : Rule) → Shape s name f k r → Does k r
     unfolding line-comment
     shape-ends k r (fixed-rule kinds) st e w m = awake m
-    shape-ends k r (text-rule x t) st e w m = awake m
+    shape-ends k r (text-rule x t small) st e w m = awake m
     shape-ends k r table-rule st e w m = awake m
     shape-ends k r file-rule st e w m = awake m
     shape-ends k r line-rule st e w m = awake m

@@ -166,6 +166,7 @@ module _ {s : Bytes} where
           })
 
     module _ (between : st .mode ≡ 0) where
+      -- then it is in no comment
       outside : st .mode ≡ 1 → ⊥
       outside n = absurd (omega arith)
 

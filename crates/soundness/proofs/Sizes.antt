@@ -54,16 +54,19 @@ unfolding strip-left
 left-size [] = omega arith
 left-size (b ∷ l) = by-test (λ (m : Bytes). length m ≤ suc (length l)) (strips b) (λ _. omega (arith, left-size l)) (λ _. omega arith)
 
+-- a byte in front of the rest
 behind-size : (b : ℕ) (l : Bytes) → length (behind b l) ≤ suc (length l)
 unfolding behind
 behind-size b [] = by-if (λ (m : Bytes). length m ≤ 1) (strips b) (λ _. omega arith) (λ _. omega arith)
 behind-size b (x ∷ l) = omega arith
 
+-- from the right
 right-size : (l : Bytes) → length (strip-right l) ≤ length l
 unfolding strip-right
 right-size [] = omega arith
 right-size (b ∷ l) = omega (arith, behind-size b (strip-right l), right-size l)
 
+-- both
 pub clean-size : (l : Bytes) → length (clean-number l) ≤ length l
 unfolding clean-number
 clean-size l = omega (arith, right-size (strip-left l), left-size l)
@@ -88,15 +91,18 @@ line-size n h = digits 6 n h
 
 -- ---- comments: with a byte for each line's end, the lines of a text are as long as the text and one byte
 
+-- of some lines
 abbrev lines-size : List Bytes → ℕ
 lines-size [] = 0
 lines-size (l ∷ ls) = suc (length l) + lines-size ls
 
+-- a byte more on the first line
 onto-size : (b n : ℕ) (ls : List Bytes) → lines-size ls ≡ suc n → lines-size (onto-first b ls) ≡ suc (suc n)
 unfolding onto-first
 onto-size b n [] q = absurd (omega arith)
 onto-size b n (l ∷ ls) q = omega arith
 
+-- splitting
 split-size : (l : Bytes) → lines-size (split-lines l) ≡ suc (length l)
 unfolding split-lines
 split-size [] = refl
@@ -104,10 +110,12 @@ split-size (b ∷ l) =
     by-test (λ (ls : List Bytes). lines-size ls ≡ suc (suc (length l))) (eqb b (ch "\n"))
     (λ _. omega (arith, split-size l)) (λ _. onto-size b (length l) (split-lines l) (split-size l))
 
+-- cutting each line
 cut-size : (w : ℕ) (ls : List Bytes) → lines-size (map (drop w) ls) ≤ lines-size ls
 cut-size w [] = omega arith
 cut-size w (l ∷ ls) = omega (arith, length-drop w l, cut-size w ls)
 
+-- joining
 join-size : (ls : List Bytes) → length (join-lines ls) ≤ lines-size ls - 1
 unfolding join-lines
 join-size [] = omega arith

@@ -97,7 +97,7 @@ module _ (s : Bytes) where
     -- what each shape of rules does
     shape-safe : (k : ℕ) (r : Rule) → Shape s name f k r → Does k r
     shape-safe k r (fixed-rule kinds) st e w c h m = walk-stands h (c .onward .walk)
-    shape-safe k r (text-rule x t) st e w c h m = walk-stands h (c .onward .walk)
+    shape-safe k r (text-rule x t small) st e w c h m = walk-stands h (c .onward .walk)
     shape-safe k r table-rule st e w c h m = walk-stands h (c .onward .walk)
     shape-safe k r file-rule st e w c h m = walk-stands h (c .onward .walk)
     shape-safe k r line-rule st e w c h m = walk-stands h (c .onward .walk)

@@ -8,5 +8,14 @@ use lib.ListN.{length}
 use Rattle.definition.specs.Basics.{Bytes}
 use Rattle.definition.specs.declared.State.{State}
 
+-- the most bytes of payload for one of the text
+abbrev pub growth : ℕ
+growth = 400
+
+-- while the reading goes on
+abbrev pub most : Bytes → State → ℕ
+most s st = growth * (length s - st .offset) + 2 * st .depth
+
+-- in any state
 unfoldable pub budget : Bytes → State → ℕ
-budget s st = elim (eqb (st .mode) 2) [ true ↦ 0 | false ↦ 400 * (length s - st .offset) + 2 * st .depth ]
+budget s st = elim (eqb (st .mode) 2) [ true ↦ 0 | false ↦ most s st ]

@@ -246,7 +246,7 @@ const TOKENS_FROM: [[usize; 8]; 33] = [
 ];
 
 // Nothing is chosen yet.
-fn nothing(i: usize) -> Choice
+pub fn nothing(i: usize) -> Choice
     ensures { λ r. ⌜ r ≡ none-at i ⌝ }
 {
     Choice {

@@ -1,0 +1,4 @@
+pub mod Standing
+pub mod Building
+pub mod Turning
+pub mod Describing

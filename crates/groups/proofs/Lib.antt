@@ -1,0 +1,2 @@
+-- `Chains`: choices put together from what each call answered.
+pub mod Chains

@@ -1,0 +1,22 @@
+-- `ident_behind` finds a run behind a character that passes its test.
+use mathlib.Core.Path.{sym, _∙_}
+use Rattle.groups.proofs.Chains.{only-yes, only-no}
+use borrow.Author.Needs.{needs}
+use Rattle.groups.proofs.beyond.ident_behind.Statement.{statement}
+use Rattle.groups.proofs.beyond.ident_behind.Tie as tie
+
+is-ident-start-requires : tie.Need-is-ident-start-requires
+is-ident-start-requires c κs = search needs
+
+star-ident-char-requires : tie.Need-star-ident-char-requires
+star-ident-char-requires c κs = search needs
+
+returns : tie.Need-returns
+returns c = only-yes (sym (c .before .before .is-ident-start .ensures) ∙ c .before .if1 .taken) (c .star-ident-char .ensures)
+
+returns-2 : tie.Need-returns-2
+returns-2 c = only-no _ (sym (c .before .is-ident-start .ensures) ∙ c .if1 .left)
+
+pub ident-behind-spec : {M : Type 1} → statement M
+ident-behind-spec =
+    tie.close (tie.spec is-ident-start-requires star-ident-char-requires returns returns-2)

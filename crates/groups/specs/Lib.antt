@@ -1,0 +1,2 @@
+-- `Groups`: what may be chosen at each first character.
+pub mod Groups

@@ -1,0 +1,95 @@
+// Characters beyond ASCII: each place reads on behind a character that is decoded already.
+use crate::choice::alone;
+use crate::choice::try_place;
+use chars::is_anywhite;
+use chars::is_constructor_start;
+use chars::is_ident_start;
+use chars::is_newline_char;
+use chars::is_uoperator;
+use definition::Choice;
+use definition::Match;
+use scan::runs::star_anywhite;
+use scan::runs::star_ident_char;
+use words::keep;
+use words::kw_op;
+ghost use mathlib.Core.Path.{_≡_};
+ghost use Rattle.definition.specs.ClassFile.{class-check};
+ghost use Rattle.definition.specs.Chars.{ascii-table, op-char-cps, is-anywhite, is-newline-char, is-ident-start, is-constructor-start, is-ident-char, is-uoperator};
+ghost use Rattle.definition.specs.Text.{star};
+ghost use Rattle.definition.specs.Matchers.{only};
+ghost use Rattle.definition.specs.declared.Match.the-variants.{To};
+ghost use Rattle.groups.specs.Groups.{at-beyond-ascii};
+
+// The end of white space behind a character c.
+fn white_behind(text: &[u8], file: &[u8], c: u32, j: usize) -> Match
+    requires { ⌜ class-check (now file) ≡ 0 ⌝ }
+    ensures { λ r. ⌜ r ≡ only (is-anywhite (now (file .entry)) c) (To (star (is-anywhite (now (file .entry))) (now (text .entry)) j)) ⌝ }
+{
+    if is_anywhite(file, c) {
+        return Match::To(star_anywhite(text, file, j));
+    }
+    Match::Nothing
+}
+
+// The end of a line end c.
+fn line_end(c: u32, j: usize) -> Match
+    ensures { λ r. ⌜ r ≡ only (is-newline-char c) (To j) ⌝ }
+{
+    if is_newline_char(c) {
+        return Match::To(j);
+    }
+    Match::Nothing
+}
+
+// The end of an identifier whose first character is c.
+fn ident_behind(text: &[u8], file: &[u8], c: u32, j: usize) -> Match
+    requires { ⌜ class-check (now file) ≡ 0 ⌝ }
+    ensures { λ r. ⌜ r ≡ only (is-ident-start c) (To (star (is-ident-char (now (file .entry))) (now (text .entry)) j)) ⌝ }
+{
+    if is_ident_start(c) {
+        return Match::To(star_ident_char(text, file, j));
+    }
+    Match::Nothing
+}
+
+// The end of a constructor whose first character is c.
+fn constructor_behind(text: &[u8], file: &[u8], c: u32, j: usize) -> Match
+    requires { ⌜ class-check (now file) ≡ 0 ⌝ }
+    ensures { λ r. ⌜ r ≡ only (is-constructor-start (now (file .entry)) c) (To (star (is-ident-char (now (file .entry))) (now (text .entry)) j)) ⌝ }
+{
+    if is_constructor_start(file, c) {
+        return Match::To(star_ident_char(text, file, j));
+    }
+    Match::Nothing
+}
+
+// The end of a mathematical operator c.
+fn uoperator(file: &[u8], c: u32, j: usize) -> Match
+    requires { ⌜ class-check (now file) ≡ 0 ⌝ }
+    ensures { λ r. ⌜ r ≡ only (is-uoperator (now (file .entry)) c) (To j) ⌝ }
+{
+    if is_uoperator(file, c) {
+        return Match::To(j);
+    }
+    Match::Nothing
+}
+
+// A character c from i to j.
+pub fn at_beyond_ascii(
+    text: &[u8],
+    file: &[u8],
+    ops: &[bool; 128],
+    i: usize,
+    c: u32,
+    j: usize,
+) -> Choice
+    requires { ⌜ (class-check (now file) ≡ 0) × (now ops ≡ ascii-table op-char-cps) ⌝ }
+    ensures { λ r. ⌜ r ≡ at-beyond-ascii (now (text .entry)) (now (file .entry)) i c j ⌝ }
+{
+    let mut best = alone(i, 7, white_behind(text, file, c, j));
+    best = try_place(best, i, 8, line_end(c, j));
+    best = keep(best, kw_op(text, ops, i));
+    best = try_place(best, i, 14, ident_behind(text, file, c, j));
+    best = try_place(best, i, 15, constructor_behind(text, file, c, j));
+    try_place(best, i, 49, uoperator(file, c, j))
+}

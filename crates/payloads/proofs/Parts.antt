@@ -1,0 +1,81 @@
+-- The bytes of a part, and what stands in a buffer when parts are written one behind the other. Rests on the laws of lists and of
+-- buffers that are written over.
+use Prim.Native.Nat.{ℕ, suc, _+_, _-_, _≤_, _<_}
+use mathlib.Core.Path.{_≡_, sym, ap, _∙_}
+use mathlib.Core.List.{List, [], _∷_, _++_}
+use native.Mathlib.Nat.{le-refl}
+use native.Mathlib.Omega.{arith}
+use lib.ListN.{length, getD, take, set, length-set}
+use lib.Seq.{slice, length-slice, take-all, getD-drop, getD-take}
+use borrow.Rule.Slice.PartMut.{midOf, putMid}
+use Rattle.definition.specs.Basics.{Bytes}
+use Rattle.definition.specs.Run.{put}
+use Rattle.lemmas.specs.Over.{over, Wrote}
+use Rattle.lemmas.proofs.Copies.{write-on, Copied, copied-starts, copied-goes-on, copied-ends, copied-length}
+use Rattle.lemmas.proofs.Tails.{tail-back, write-more, length-put}
+
+-- ---- one part, byte by byte
+
+module _ (s : Bytes) (from to : ℕ) (h : to ≤ length s) where
+  pub part-starts : {l : List ℕ} → to - from ≤ length l → Copied (slice from to s) l 0 l
+  part-starts {l} r = copied-starts (slice from to s) l (omega (arith, length-slice from to s h))
+
+  module _ {l m : List ℕ} {j : ℕ} (c : Copied (slice from to s) l j m) where
+    -- there is room for the next byte
+    pub part-room : j < to - from → j < length m
+    part-room k = omega (arith, length-slice from to s h, c .room, copied-length c)
+
+    -- the next byte of the part is that of the whole
+    pub part-goes-on : j < to - from → Copied (slice from to s) l (j + 1) (set m j (getD s (from + j) 0))
+    part-goes-on k =
+        let i : j < length (slice from to s) = omega (arith, length-slice from to s h) in
+        let i′ : from + j < to = omega arith in
+        copied-goes-on c i (sym (getD-drop from (take to s) j 0 ∙ getD-take to s (from + j) 0 i′))
+
+    pub part-ends : to - from ≤ j → m ≡ over (slice from to s) l
+    part-ends k = copied-ends c (omega (arith, length-slice from to s h))
+
+-- ---- what is written behind
+
+-- a lent tail that was written over
+pub lent : (l tail vs : List ℕ) (at : ℕ) → tail ≡ over vs (midOf at (length l - at) l) → putMid at (length l - at) l tail ≡ put l at vs
+lent l tail vs at e = rw e (tail-back l at vs)
+
+-- the tail behind what was written before
+pub behind : (l mid tail a b : List ℕ) (at : ℕ) → mid ≡ over a l → at ≡ length a → length a ≤ length l → tail ≡ over b (midOf at (length mid - at) mid)
+    → putMid at (length mid - at) mid tail ≡ over (a ++ b) l
+behind l mid tail a b at m n h e = lent mid tail b at e ∙ rw (m, n) (write-more a b l h)
+
+-- an element in front of a tail that was written
+front : (l vs : List ℕ) (x : ℕ) → 1 ≤ length l → set (put l 1 vs) 0 x ≡ over (x ∷ vs) l
+unfolding over put
+front [] vs x h = absurd (omega arith)
+front (y ∷ l) vs x h =
+    let k : 1 + length vs ≡ suc (length vs) = omega arith in
+    rw k
+
+pub in-front : (l tail vs : List ℕ) (x : ℕ) → 1 ≤ length l → tail ≡ over vs (midOf 1 (length l - 1) l) → set (putMid 1 (length l - 1) l tail) 0 x ≡ over (x ∷ vs) l
+in-front l tail vs x h e = ap (λ (m : List ℕ). set m 0 x) (lent l tail vs 1 e) ∙ front l vs x h
+
+-- and an element behind it
+pub on-both-sides : (l tail vs : List ℕ) (x y n : ℕ) → n ≡ length vs → length vs + 2 ≤ length l → tail ≡ over vs (midOf 1 (length l - 1) l)
+    → set (set (putMid 1 (length l - 1) l tail) 0 x) (1 + n) y ≡ over ((x ∷ []) ++ (vs ++ (y ∷ []))) l
+on-both-sides l tail vs x y n q h e =
+    let k : 1 + n ≡ length (x ∷ vs) = omega arith in
+    ap (λ (m : List ℕ). set m (1 + n) y) (in-front l tail vs x (omega arith) e)
+    ∙ ap (λ (i : ℕ). set (over (x ∷ vs) l) i y) k
+    ∙ write-on (x ∷ vs) l y (omega arith)
+
+-- a part as long as its offsets say fits where that many bytes do
+pub part-fits : (s : Bytes) (from to n : ℕ) → to ≤ length s → to - from ≤ n → length (slice from to s) ≤ n
+part-fits s from to n h r = omega (arith, length-slice from to s h)
+
+-- all of some bytes
+pub whole : (s l : Bytes) → over (slice 0 (length s) s) l ≡ over s l
+whole s l = ap (λ (t : Bytes). over t l) (take-all (length s) s (le-refl (length s)))
+
+-- behind the digits of a number there is room for a parenthesis
+pub mark-room : (l tail vs : List ℕ) (x n : ℕ) → length vs + 2 ≤ length l → Wrote vs (midOf 1 (length l - 1) l) tail n → 1 + n < length (set (putMid 1 (length l - 1) l tail) 0 x)
+mark-room l tail vs x n h w =
+    let e : length (put l 1 vs) ≡ length l = length-put l 1 vs (omega arith) in
+    simp (length-set, lent l tail vs 1 (w .bytes)) (omega (arith, e, w .all))

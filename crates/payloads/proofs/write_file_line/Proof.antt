@@ -1,0 +1,47 @@
+-- The mark stands behind the name.
+use Prim.Native.Nat.{_≤_}
+use mathlib.Core.Path.{refl, _∙_}
+use lib.ListN.{length}
+use Rattle.payloads.proofs.Parts.{behind, whole}
+use native.Mathlib.Omega.{arith}
+use borrow.Author.Needs.{needs}
+use Rattle.payloads.proofs.write_file_line.Statement.{statement}
+use Rattle.payloads.proofs.write_file_line.Tie as tie
+
+write-part-requires : tie.Need-write-part-requires
+write-part-requires c κs = search needs
+
+sub-write-mark : tie.Need-sub-write-mark
+sub-write-mark c = search needs
+
+part-write-mark-start : tie.Need-part-write-mark-start
+part-write-mark-start c = search needs
+
+part-write-mark-end : tie.Need-part-write-mark-end
+part-write-mark-end c = search needs
+
+write-mark-requires : tie.Need-write-mark-requires
+write-mark-requires c κs = search needs
+
+same-length : tie.Need-same-length
+same-length c = search needs
+
+returns : tie.Need-returns
+returns c =
+    let d = c .before .before in
+    let g = d .before .before .before .before .before .before .before .before in
+    let room : length (g .args .name .now) ≤ length (g .args .out .now) = omega (arith, g .pre) in
+    behind (g .args .out .now) _ _ (g .args .name .now) _ _
+    (d .before .before .before .before .write-part .ensures ∙ whole (g .args .name .now) (g .args .out .now)) refl room (d .write-mark .ensures)
+
+pub write-file-line-spec : {M : Type 1} → statement M
+write-file-line-spec =
+    tie.close
+    (tie.spec
+    write-part-requires
+    sub-write-mark
+    part-write-mark-start
+    part-write-mark-end
+    write-mark-requires
+    same-length
+    returns)

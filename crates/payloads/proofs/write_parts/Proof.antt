@@ -1,0 +1,54 @@
+-- The second part stands behind the first.
+use Prim.Native.Nat.{_-_, _≤_}
+use mathlib.Core.Path.{sym, _∙_}
+use lib.ListN.{length}
+use lib.Seq.{length-slice}
+use Rattle.payloads.proofs.Parts.{behind, part-fits}
+use native.Mathlib.Omega.{arith}
+use borrow.Author.Needs.{needs}
+use Rattle.payloads.proofs.write_parts.Statement.{statement}
+use Rattle.payloads.proofs.write_parts.Tie as tie
+
+span-requires : tie.Need-span-requires
+span-requires c κs = search needs
+
+write-part-requires : tie.Need-write-part-requires
+write-part-requires c κs = search needs
+
+sub-write-part : tie.Need-sub-write-part
+sub-write-part c = search needs
+
+part-write-part-start : tie.Need-part-write-part-start
+part-write-part-start c = search needs
+
+part-write-part-end : tie.Need-part-write-part-end
+part-write-part-end c = search needs
+
+write-part-requires-2 : tie.Need-write-part-requires-2
+write-part-requires-2 c κs = search needs
+
+same-length : tie.Need-same-length
+same-length c = search needs
+
+returns : tie.Need-returns
+returns c =
+    let d = c .before .before in
+    let b = d .before .before .before .before in
+    let g = b .before .before in
+    let a = g .before .before .before in
+    let p = a .pre in
+    let room : a .args .to - a .args .from ≤ length (a .args .out .now) = omega (arith, p .1) in
+    behind _ _ _ _ _ _ (b .write-part .ensures) (g .span .ensures ∙ sym (length-slice _ _ _ (p .0 .0))) (part-fits _ _ _ _ (p .0 .0) room) (d .write-part2 .ensures)
+
+pub write-parts-spec : {M : Type 1} → statement M
+write-parts-spec =
+    tie.close
+    (tie.spec
+    span-requires
+    write-part-requires
+    sub-write-part
+    part-write-part-start
+    part-write-part-end
+    write-part-requires-2
+    same-length
+    returns)

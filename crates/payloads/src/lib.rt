@@ -1,0 +1,68 @@
+// Writing a payload's bytes to the front of a lent buffer, by its description.
+//
+// Proved: exactly the bytes that the description stands for are written, and the rest of the buffer keeps what it held.
+// Assumed: nothing but what each function's `requires` says: the description is right for the text, and the buffer has
+// room for its bytes.
+use described::span;
+use numerals::show_into;
+ghost use mathlib.Core.Path.{_≡_};
+ghost use mathlib.Core.List.{_∷_, _++_};
+ghost use Prim.Native.Nat.{_+_, _-_, _≤_};
+ghost use lib.ListN.{length};
+ghost use lib.Seq.{slice};
+ghost use Rattle.definition.specs.Basics.{ch};
+ghost use Rattle.definition.specs.Tables.{cps};
+ghost use Rattle.definition.specs.Numbers.{show};
+ghost use Rattle.lemmas.specs.Over.{over};
+
+// Writes a part of some bytes.
+fn write_part(bytes: &[u8], from: usize, to: usize, out: &mut [u8])
+    requires { ⌜ (to ≤ length (now bytes)) × (to - from ≤ length (now out)) ⌝ }
+    ensures { λ r. ⌜ now (out .exit) ≡ over (slice from to (now (bytes .entry))) (now (out .entry)) ⌝ }
+{
+    let n = span(from, to);
+    let mut j = 0;
+    while j < n {
+        out[j] = bytes[from + j];
+        j += 1;
+    }
+}
+
+// Writes `>` and a part of the text.
+fn write_greater(text: &[u8], from: usize, to: usize, out: &mut [u8])
+    requires { ⌜ (to ≤ length (now text)) × (1 + (to - from) ≤ length (now out)) ⌝ }
+    ensures { λ r. ⌜ now (out .exit) ≡ over (ch ">" ∷ slice from to (now (text .entry))) (now (out .entry)) ⌝ }
+{
+    write_part(text, from, to, &mut out[1..]);
+    out[0] = b'>';
+}
+
+// Writes a line's number in parentheses.
+fn write_mark(line: u32, out: &mut [u8])
+    requires { ⌜ length (show line) + 2 ≤ length (now out) ⌝ }
+    ensures { λ r. ⌜ now (out .exit) ≡ over (cps "(" ++ (show line ++ cps ")")) (now (out .entry)) ⌝ }
+{
+    let digits = show_into(line, &mut out[1..]);
+    out[0] = b'(';
+    out[1 + digits] = b')';
+}
+
+// Writes the file's name and a line's number in parentheses.
+fn write_file_line(name: &[u8], line: u32, out: &mut [u8])
+    requires { ⌜ length (now name) + (length (show line) + 2) ≤ length (now out) ⌝ }
+    ensures { λ r. ⌜ now (out .exit) ≡ over (now (name .entry) ++ (cps "(" ++ (show line ++ cps ")"))) (now (out .entry)) ⌝ }
+{
+    let n = name.len();
+    write_part(name, 0, n, out);
+    write_mark(line, &mut out[n..]);
+}
+
+// Writes two parts of the text, one behind the other.
+fn write_parts(text: &[u8], from: usize, to: usize, contents: usize, end: usize, out: &mut [u8])
+    requires { ⌜ ((to ≤ length (now text)) × (end ≤ length (now text))) × ((to - from) + (end - contents) ≤ length (now out)) ⌝ }
+    ensures { λ r. ⌜ now (out .exit) ≡ over (slice from to (now (text .entry)) ++ slice contents end (now (text .entry))) (now (out .entry)) ⌝ }
+{
+    let n = span(from, to);
+    write_part(text, from, to, out);
+    write_part(text, contents, end, &mut out[n..]);
+}

@@ -1,0 +1,87 @@
+-- What `select` chooses at a character beyond ASCII: six places may begin with one, and each reads it once. Rests on the law of first
+-- characters.
+use Prim.Native.Nat.{ℕ, _+_, _≤_}
+use mathlib.Core.Path.{_≡_, refl, sym, ap, _∙_}
+use mathlib.Core.Bool.{Bool, true, false, _&&_, false≢true}
+use mathlib.Core.List.{List, [], _∷_}
+use native.Mathlib.Omega.{arith}
+use lib.Dec.{eqb, ltb, leb}
+use borrow.Author.Tests.{eqb-true, ne-eqb, lt-leb, le-leb, ltb-true}
+use Rattle.definition.specs.Basics.{Bytes, ch, mem-cp}
+use Rattle.definition.specs.Utf8.{sequence-at}
+use Rattle.definition.specs.Text.{char-has, byte-is, star}
+use Rattle.definition.specs.Chars.{ascii-limit, is-digit, is-ident-start, is-constructor-start, is-ident-char, is-anywhite, is-newline-char, is-uoperator}
+use Rattle.definition.specs.Tables.{early-literals, kw-op-rules, op-tokens, mixfix-rules}
+use Rattle.definition.specs.Matchers.{_then_, only, one, plus, match-newline, match-ident, match-constructor}
+use Rattle.definition.specs.Select.{places, try-all, select}
+use Rattle.definition.specs.Patterns.{patterns}
+use Rattle.definition.specs.declared.Sequence.the-variants.{Char}
+use Rattle.definition.specs.declared.Match.{Match}
+use Rattle.definition.specs.declared.Match.the-variants.{To}
+use Rattle.lemmas.proofs.Cases.{by-test, both}
+use Rattle.longest.proofs.Starts.{all-pass}
+use Rattle.longest.proofs.Places.{has-read}
+use Rattle.groups.specs.Groups.{at-beyond-ascii}
+use Rattle.select.proofs.First.{begins, among, select-among}
+use Rattle.select.proofs.Standing.{one-read}
+
+-- ---- which places may begin with it
+
+module _ (c : ℕ) (h : 128 ≤ c) where
+  -- It is no ASCII character,
+  not-ascii : (a : ℕ) → ltb a 128 ≡ true → eqb c a ≡ false
+  not-ascii a t = ne-eqb c a (λ e. omega (arith, ltb-true a 128 t))
+
+  -- none of a list of them,
+  not-listed : (l : List ℕ) → all-pass (λ a. ltb a 128) l ≡ true → mem-cp c l ≡ false
+  unfolding mem-cp
+  not-listed [] t = refl
+  not-listed (a ∷ l) t =
+      let b = both (ltb a 128) (all-pass (λ a. ltb a 128) l) t in
+      by-test (λ (x : Bool). x ≡ false) (eqb a c) (λ e. absurd (omega (arith, eqb-true a c e, ltb-true a 128 (b .0)))) (λ _. not-listed l (b .1))
+
+  -- and no digit.
+  not-digit : is-digit c ≡ false
+  unfolding is-digit
+  not-digit = simp (le-leb (ch "0") c (omega arith), lt-leb c (ch "9") (omega arith))
+
+  -- So only six places may begin with it.
+  six-places : (f : Bytes) → begins f (7 ∷ 8 ∷ 12 ∷ 14 ∷ 15 ∷ 49 ∷ []) c ≡ true
+  unfolding begins patterns early-literals kw-op-rules op-tokens mixfix-rules mem-cp
+  six-places f = simp (not-ascii, not-listed, not-digit)
+
+-- ---- what they find
+
+-- A run behind one character that passes its test.
+one-then : (t : Bool) (j : ℕ) (g : ℕ → ℕ) → (only t (To j) then λ e. To (g e)) ≡ only t (To (g j))
+one-then true j g = refl
+one-then false j g = refl
+
+module _ (s f : Bytes) (i c w : ℕ) (q : sequence-at s i ≡ Char c w) where
+  -- A run from the character on, of another test behind the first.
+  run : (p g : ℕ → Bool) → (one p s i then λ j. To (star g s j)) ≡ only (p c) (To (star g s (i + w)))
+  run p g = ap (λ (m : Match). m then λ j. To (star g s j)) (one-read p s i c w q) ∙ one-then (p c) (i + w) (star g s)
+
+  -- A line end beyond ASCII is one character.
+  newline : 128 ≤ c → match-newline s i ≡ only (is-newline-char c) (To (i + w))
+  unfolding match-newline
+  newline h =
+      let e : char-has (λ c. eqb c (ch "\r")) s i ≡ false = has-read (λ c. eqb c (ch "\r")) s i c w q ∙ not-ascii c h (ch "\r") refl in
+      by-test (λ (m : Match). m ≡ only (is-newline-char c) (To (i + w)))
+      (char-has (λ c. eqb c (ch "\r")) s i && byte-is (ch "\n") s (i + 1))
+      (λ t. absurd (false≢true (sym e ∙ both _ _ t .0)))
+      (λ _. one-read is-newline-char s i c w q)
+
+  -- What is chosen at a character beyond ASCII.
+  pub beyond-ascii : 128 ≤ c → select s f i ≡ at-beyond-ascii s f i c (i + w)
+  unfolding among places try-all mem-cp plus match-ident match-constructor
+  beyond-ascii h =
+      select-among s f i (7 ∷ 8 ∷ 12 ∷ 14 ∷ 15 ∷ 49 ∷ []) c w q (six-places c h f)
+      ∙ rw (
+        has-read (leb ascii-limit) s i c w q ∙ le-leb ascii-limit c h,
+        run (is-anywhite f) (is-anywhite f),
+        newline h,
+        run is-ident-start (is-ident-char f),
+        run (is-constructor-start f) (is-ident-char f),
+        one-read (is-uoperator f) s i c w q,
+      )
