@@ -1,6 +1,6 @@
--- `RunLaws` is about runs up to a character that ends them.
-pub mod RunLaws
+-- `Places` is about where the readers stand, `ReadLaws` about what is read there, `TurnLaws` about one turn of `comment`, `LoopLaws` about
+-- its loop.
 pub mod Places
-pub mod TurnLaws
 pub mod ReadLaws
+pub mod TurnLaws
 pub mod LoopLaws

@@ -1,84 +1,65 @@
--- `comment` call by call: what is still to be computed gives what the whole gives. Rests on the laws of its loop, and that each call keeps
--- a sound state sound.
-use Prim.Native.Nat.{ℕ, _+_, _<_}
-use mathlib.Core.Path.{_≡_, refl, sym, ap, subst, _∙_}
-use mathlib.Core.Bool.{true, false}
-use Rattle.definition.specs.Basics.{Bytes, Turn, again}
-use Rattle.definition.specs.State.{advance}
-use Rattle.definition.specs.Item.{Step}
-use Rattle.definition.specs.Comment.{terminate, comment-turn, comment}
+-- `comment` turn by turn: what is still to be read gives what the whole gives. Rests on the laws of its loop, and that each turn keeps a
+-- sound state sound.
+use Prim.Native.Nat.{ℕ, _<_}
+use mathlib.Core.Path.{_≡_, refl, sym, subst, _∙_}
+use mathlib.Core.List.{[]}
+use Rattle.definition.specs.Basics.{Bytes}
+use Rattle.definition.specs.Comment.{comment-turn, comment}
 use Rattle.definition.specs.declared.State.{State}
-use Rattle.lemmas.proofs.Loops.{says, Leads}
+use Rattle.lemmas.proofs.Loops.{Leads, Any, leads-both}
 use Rattle.state.specs.Sound.{Stands}
 use Rattle.progress.proofs.Walks.{rest, Clean}
 use Rattle.progress.proofs.Comments.{comment-falls}
 use Rattle.progress.proofs.Fuel.{comment-unroll}
-use Rattle.soundness.proofs.Moving.{stands-clean, stands-within}
+use Rattle.soundness.proofs.Moving.{stands-clean}
 use Rattle.soundness.proofs.Turns.{comment-turn-stands}
-use Rattle.positions.specs.declared.Cache.{Cache}
+use Rattle.described.specs.Described.{Reads}
+use Rattle.described.specs.declared.Place.{Place}
 use Rattle.described.specs.declared.Read.{Read}
-use Rattle.comments.specs.Contracts.{InComment, Ending, Moves, ReadsAny}
-use Rattle.comments.specs.declared.pieces.Move.{Move}
-use Rattle.comments.specs.declared.pieces.Move.the-variants.{On, Closed, Unclosed}
-use Rattle.comments.proofs.Places.{known-same}
+use Rattle.described.specs.declared.Turned.{Turned}
+use Rattle.described.specs.declared.Turned.the-variants.{Done, Again}
+use Rattle.described.proofs.Turning.{GoesOn, turned-done, turned-again}
+use Rattle.comments.specs.Contracts.{InComment, TurnsAny, ReadsAny}
 
--- at the state st, in the comment, what is to be read is what was to be read at first
-pub record Going (s : Bytes) (from : ℕ) (first st : State) (known : Cache) : Type 0 where
-  pub inside : InComment s st known
-  pub same : comment s from st ≡ comment s from first
+-- here, in the comment, what is to be read is what was to be read at first
+pub record Going (s : Bytes) (from : ℕ) (first here : Place) : Type 0 where
+  pub inside : InComment s here
+  pub same : comment s from (here .st) ≡ comment s from (first .st)
 
-pub going-starts : {s : Bytes} (from : ℕ) {st : State} {known : Cache} → InComment s st known → Going s from st st known
+pub going-starts : {s : Bytes} (from : ℕ) {at : Place} → InComment s at → Going s from at at
 going-starts from h = record { inside = h; same = refl }
 
-module _ {s : Bytes} {from : ℕ} {first st : State} {known : Cache} (g : Going s from first st known) where
-  -- the call that was made
-  called : {t : Turn State Step} → comment-turn s from st ≡ t → comment s from first ≡ says t (comment s from)
-  called e =
-      sym (g .same) ∙ comment-unroll s from st (stands-clean (g .inside .standing .stands)) ∙ ap (λ (t : Turn State Step). says t (comment s from)) e
+module _ {s : Bytes} {from : ℕ} {first here : Place} (g : Going s from first here) where
+  clean : Clean s (here .st .offset)
+  clean = stands-clean (g .inside .standing .stands)
 
-  -- what a call keeps
-  keeps : {b : State} → comment-turn s from st ≡ again b → Stands s b × (b .mode ≡ 1)
-  keeps e =
-      let h = comment-turn-stands s from st (g .inside .standing .stands) (g .inside .mode) in
-      subst (Leads (λ b. Stands s b × (b .mode ≡ 1)) (λ t. Stands s (t .next))) e h
+  -- What a turn has read is what the comment gives.
+  pub going-ends : {m : Turned} {r : Read} → m ≡ Done r → TurnsAny s (comment-turn s from (here .st)) m → ReadsAny s (comment s from (first .st)) r
+  going-ends {m} {r} e h name f =
+      subst (λ t. Reads s name f t r) (sym (comment-unroll s from (here .st) clean) ∙ g .same)
+      (turned-done s name f (comment-turn s from (here .st)) (comment s from) r ((rw e at h) name f))
 
-  module _ {m : Move} {b : State} {k : Cache} (on : m ≡ On b k) (moved : Moves s st m) where
-    told : Moves s st (On b k)
-    told = subst (Moves s st) on moved
+  -- what holds of the state where a turn goes on
+  abbrev Kept : State → Type 0
+  Kept b = (Stands s b × (b .mode ≡ 1)) × (Clean s (b .offset) × (rest s (b .offset) < rest s (here .st .offset)))
 
-    -- The comment goes on.
-    pub going-on : Going s from first b k
+  kept : Leads Kept Any (comment-turn s from (here .st))
+  kept =
+      leads-both _ _ _ _ (comment-turn s from (here .st))
+      (comment-turn-stands s from (here .st) (g .inside .standing .stands) (g .inside .mode))
+      (comment-falls s from .at (here .st) clean)
+
+  module _ {m : Turned} {p : Place} (e : m ≡ Again p) (h : TurnsAny s (comment-turn s from (here .st)) m) where
+    on : GoesOn s [] [] Kept (comment-turn s from (here .st)) (comment s from) p
+    on = turned-again s [] [] Kept Any (comment-turn s from (here .st)) (comment s from) p kept ((rw e at h) [] [])
+
+    -- Where it goes on the comment does.
+    pub going-on : Going s from first p
     going-on = record {
-      inside = record { standing = record { stands = keeps (told .0 from) .0; cached = told .1 }; mode = keeps (told .0 from) .1 };
-      same = sym (called (told .0 from));
+      inside = record { standing = record { stands = on .holds .0 .0; cached = on .known }; mode = on .holds .0 .1 };
+      same = sym (on .same) ∙ sym (comment-unroll s from (here .st) clean) ∙ g .same;
     }
 
     -- Something was read.
-    pub going-less : rest s (b .offset) < rest s (st .offset)
-    going-less =
-        subst (Leads (λ b. Clean s (b .offset) × (rest s (b .offset) < rest s (st .offset))) (λ t. Unit {0})) (told .0 from)
-        (comment-falls s from .at st (stands-clean (g .inside .standing .stands))) .1
-
-  module _ {m : Move} (closed : m ≡ Closed) (moved : Moves s st m) where
-    shut : Moves s st Closed
-    shut = subst (Moves s st) closed moved
-
-    -- The reading stands behind the piece.
-    pub closed-ending : {a : State} → a ≡ advance st (st .offset + 2) → Ending s (st .offset) a known
-    closed-ending e = rw e record {
-      standing = record { stands = shut .1; cached = known-same _ refl refl (g .inside .standing .cached) };
-      within = stands-within (g .inside .standing .stands);
-    }
-
-    -- The piece is what the comment gives.
-    pub closed-reads : {a : State} {r : Read} → a ≡ advance st (st .offset + 2) → ReadsAny s (terminate s from (st .offset) true a) r
-        → ReadsAny s (comment s from first) r
-    closed-reads {a} {r} e h = rw (called (shut .0 from)) (subst (λ (a : State). ReadsAny s (terminate s from (st .offset) true a) r) e h)
-
-  -- The same of the piece that the text's end ends.
-  pub over-ending : Ending s (st .offset) st known
-  over-ending = record { standing = g .inside .standing; within = stands-within (g .inside .standing .stands) }
-
-  pub over-reads : {m : Move} {r : Read} → m ≡ Unclosed → Moves s st m → ReadsAny s (terminate s from (st .offset) false st) r
-      → ReadsAny s (comment s from first) r
-  over-reads {m} {r} e moved h = rw (called (subst (Moves s st) e moved from)) h
+    pub going-less : rest s (p .st .offset) < rest s (here .st .offset)
+    going-less = on .holds .1 .1

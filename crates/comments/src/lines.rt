@@ -1,13 +1,13 @@
 // A line's comment: the source's `line_comment`.
-use crate::runs::line_run;
 use definition::Extra;
 use definition::Item;
 use definition::State;
 use described::Payload;
+use described::Place;
 use described::Read;
 use described::span;
-use positions::Cache;
 use positions::pos_of;
+use scan::stops::run_end;
 ghost use mathlib.Core.Path.{_≡_};
 ghost use Prim.Native.Nat.{_<_};
 ghost use Rattle.definition.specs.Text.{lexeme};
@@ -24,15 +24,16 @@ fn one_more_comment(mut st: State) -> State
     st
 }
 
-// The rest of the line from the state st on, behind the bytes from `from` up to there.
-pub fn line_comment(text: &[u8], from: usize, st: State, known: Cache) -> Read
-    requires { ⌜ Behind (now text) from st known ⌝ }
-    ensures { λ r. ⌜ ReadsAny (now (text .entry)) (line-comment (now (text .entry)) (lexeme (now (text .entry)) from (st .offset)) st) r ⌝ }
+// The rest of the line from where the reader stands, and before it the bytes from `from` up to there.
+pub fn line_comment(text: &[u8], from: usize, at: Place) -> Read
+    requires { ⌜ Behind (now text) from at ⌝ }
+    ensures { λ r. ⌜ ReadsAny (now (text .entry)) (line-comment (now (text .entry)) (lexeme (now (text .entry)) from (at .st .offset)) (at .st)) r ⌝ }
 {
-    let to = line_run(text, st.offset as usize);
+    let st = at.st;
+    let known = at.known;
+    let to = run_end(text, b'\n', b'\n', st.offset as usize);
     let start = pos_of(text, st, known, st.offset);
-    let column = start.known;
-    let end = pos_of(text, st, column, to as u32);
+    let end = pos_of(text, st, start.known, to as u32);
     let next = one_more_comment(st.advance(to as u32));
     let sp = start.pos;
     let ep = end.pos;
@@ -45,11 +46,11 @@ pub fn line_comment(text: &[u8], from: usize, st: State, known: Cache) -> Read
         extra: Extra::Comment(true),
     };
     let payload = Payload::Part { from: from, to: to };
-    let known = end.known;
+    let column = end.known;
     Read {
         item: item,
         payload: payload,
         next: next,
-        known: known,
+        known: column,
     }
 }

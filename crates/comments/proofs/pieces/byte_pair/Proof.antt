@@ -3,8 +3,8 @@ use mathlib.Core.Path.{sym, _∙_}
 use native.Mathlib.Omega.{arith}
 use borrow.Author.Needs.{needs}
 use Rattle.scan.proofs.ByteLaws.{has-inside}
-use Rattle.comments.proofs.runs.byte_pair.Statement.{statement}
-use Rattle.comments.proofs.runs.byte_pair.Tie as tie
+use Rattle.comments.proofs.pieces.byte_pair.Statement.{statement}
+use Rattle.comments.proofs.pieces.byte_pair.Tie as tie
 
 byte-is-requires : tie.Need-byte-is-requires
 byte-is-requires c κs = search needs
