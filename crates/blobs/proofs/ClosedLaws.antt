@@ -50,12 +50,12 @@ module _ (s : Bytes) (header : Header) (lang : Bool) (from : ℕ) (at : Place) (
   pub closed-reads : (start end : Located) (k n m : ℕ) (after : State) → start ≡ located s st (st .offset) → end ≡ located s st e
       → k ≡ kind-of lang → n ≡ header .to - header .from → m ≡ st .offset - from → after ≡ advance st e → (name f : Bytes)
       → Reads s name f (blob-step s lang from (header-of s header) st e)
-        (record {
-          item = item-of k (start .pos) (end .pos) n (st .comments) m header;
-          payload = Blob-of (header .from) (header .to) from (st .offset);
-          next = after;
-          known = end .known;
-        })
+      (record {
+        item = item-of k (start .pos) (end .pos) n (st .comments) m header;
+        payload = Blob-of (header .from) (header .to) from (st .offset);
+        next = after;
+        known = end .known;
+      })
   closed-reads start end k n m after p q r a b c name f = record {
     item = rw (p, q, r, a, b, length-slice (header .from) (header .to) s (h .named), length-slice from (st .offset) s here, position-kept s st (advance st e) e refl refl refl);
     payload = describes name f;

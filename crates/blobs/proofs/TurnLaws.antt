@@ -183,10 +183,9 @@ module _ {s : Bytes} {header : Header} {lang : Bool} {from : ℕ} {first here : 
         let stands = k .inside .standing .stands in
         let u = contents-unroll s lang from (header-of s header) (here .st) stands in
         let g = turned-again s name f (λ b. (Stands s b × (b .mode ≡ 0)) × (rest s (b .offset) < rest s (here .st .offset))) Any
-            (contents-turn s lang from (header-of s header) (here .st)) (contents-from s lang from (header-of s header)) p
-            (turn-leads s from (header-of s header) (here .st) lang stands (k .inside .between)) t in
-        let less : rest s (p .st .offset) < rest s (here .st .offset) = g .holds .1 in
-        (
+        (contents-turn s lang from (header-of s header) (here .st)) (contents-from s lang from (header-of s header)) p
+        (turn-leads s from (header-of s header) (here .st) lang stands (k .inside .between)) t in
+        let less : rest s (p .st .offset) < rest s (here .st .offset) = g .holds .1 in (
           record {
             inside = record {
               standing = record { stands = g .holds .0 .0; cached = g .known };
@@ -196,5 +195,5 @@ module _ {s : Bytes} {header : Header} {lang : Bool} {from : ℕ} {first here : 
             };
             same = sym (g .same) ∙ sym u ∙ k .same;
           },
-          less
+          less,
         )
