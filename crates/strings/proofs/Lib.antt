@@ -1,2 +1,4 @@
 pub mod MoveLaws
 pub mod TurnLaws
+pub mod EscapeLaws
+pub mod Goes
