@@ -14,9 +14,7 @@ use Rattle.definition.specs.Item.{Step, tok, lex-error}
 use Rattle.definition.specs.declared.Pos.{Pos}
 use Rattle.definition.specs.declared.State.{State}
 use Rattle.definition.specs.declared.Extra.the-variants.{NoExtra}
-use Rattle.lemmas.proofs.Loops.{Leads}
-use Rattle.state.specs.Sound.{Stands}
-use Rattle.progress.proofs.Fuel.{string-from}
+use Rattle.progress.proofs.Literals.{string-from}
 use Rattle.described.specs.Described.{literal}
 use Rattle.strings.specs.declared.Move.{Move}
 use Rattle.strings.specs.declared.Move.the-variants.{Copy, Skip, Line, Char, Surrogate, Close, Open}
@@ -30,6 +28,36 @@ adds s i (Char c e) = encode c
 adds s i Surrogate = []
 adds s i (Close e) = []
 adds s i Open = []
+
+-- how many they are
+abbrev pub added : ℕ → Move → ℕ
+added i (Copy e) = e - i
+added i (Skip e) = 0
+added i (Line e) = e - i
+added i (Char c e) = length (encode c)
+added i Surrogate = 0
+added i (Close e) = 0
+added i Open = 0
+
+-- where a move from byte i ends
+abbrev pub ends-at : ℕ → Move → ℕ
+ends-at i (Copy e) = e
+ends-at i (Skip e) = e
+ends-at i (Line e) = e
+ends-at i (Char c e) = e
+ends-at i Surrogate = i
+ends-at i (Close e) = e
+ends-at i Open = i
+
+-- the literal goes on behind a move
+abbrev pub On : Move → Type 0
+On (Copy e) = Unit {0}
+On (Skip e) = Unit {0}
+On (Line e) = Unit {0}
+On (Char c e) = Unit {0}
+On Surrogate = ⊥
+On (Close e) = ⊥
+On Open = ⊥
 
 -- the literal that ends before byte e, where st stands at its closing quote
 abbrev pub closed : Bytes → Bytes → Pos → State → ℕ → Step
@@ -49,10 +77,6 @@ does s sp st acc Open = done (lex-error s st 1 [] (cur-pos s st) (cur-pos s st))
 abbrev pub states : Turn (State × Bytes) Step → Turn State Step
 states (again a) = again (a .0)
 states (done t) = done t
-
--- where a move leads is a place to stand
-abbrev pub Safe : Bytes → Pos → State → Move → Type 0
-Safe s sp st m = Leads (λ b. Stands s b × (b .mode ≡ 0)) (λ t. Stands s (t .next)) (states (does s sp st [] m))
 
 -- the literal whose bytes before byte i are acc
 abbrev pub literal-from : Bytes → Bytes → ℕ → Bytes → Bytes
