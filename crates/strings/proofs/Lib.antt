@@ -5,3 +5,5 @@ pub mod Goes
 pub mod LiteralLaws
 pub mod Growth
 pub mod HeldLaws
+pub mod ReadLaws
+pub mod LoopLaws

@@ -143,10 +143,7 @@ fn contents(from: usize, to: usize, count: usize) -> Payload
     ensures describes { λ r. ⌜ ((s name f acc : Bytes) → Held s f from to count acc → literal s f from ≡ acc → Describes s name f r acc) ⌝ }
 {
     if count == span(from, to) {
-        return Payload::Part {
-            from: from,
-            to: to,
-        };
+        return Payload::Part { from: from, to: to };
     }
     Payload::Literal {
         from: from,

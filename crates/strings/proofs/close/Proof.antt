@@ -1,45 +1,46 @@
+-- The position behind the quote is asked for, and the contents are described.
+use Rattle.definition.specs.Kinds.{kind, kind-names, number-from}
+use Rattle.soundness.proofs.Moving.{stands-within}
+use Rattle.described.proofs.Standing.{asks}
+use Rattle.strings.proofs.ReadLaws.{close-reads}
 use native.Mathlib.Omega.{arith}
 use borrow.Author.Needs.{needs}
 use Rattle.strings.proofs.close.Statement.{statement}
 use Rattle.strings.proofs.close.Tie as tie
-use Rattle.strings.proofs.close.Reads as reads
-use Rattle.strings.proofs.close.Lts as lts
-use Rattle.definition.proofs.State.advance.Reads as advance-reads
-use Rattle.described.proofs.tokens.token.Reads as token-reads
-use Rattle.positions.proofs.pos_of.Reads as pos-of-reads
-use Rattle.strings.proofs.contents.Reads as contents-reads
 
--- src/lib.rt:164:39
 cast-pos-of : tie.Need-cast-pos-of
-cast-pos-of c = ?
+cast-pos-of c =
+    let h = c .before .before .before .before .pre .next in
+    omega (arith, stands-within h, h .short)
 
--- src/lib.rt:164:9
 pos-of-requires : tie.Need-pos-of-requires
-pos-of-requires c κs = ?
+pos-of-requires c κs =
+    let p = c .before .before .before .before .pre in
+    asks (p .standing) _ (p .next .sound .order) (stands-within (p .next))
 
--- src/lib.rt:167:34
 cast-contents : tie.Need-cast-contents
 cast-contents c = search needs
 
--- src/lib.rt:167:9
 contents-requires : tie.Need-contents-requires
 contents-requires c κs = search needs
 
--- src/lib.rt:175:20
 cast-advance : tie.Need-cast-advance
-cast-advance c = ?
+cast-advance c =
+    let h = c .before .before .before .before .before .before .before .before .before .pre .next in
+    omega (arith, stands-within h, h .short)
 
--- src/lib.rt:175:9
 advance-requires : tie.Need-advance-requires
 advance-requires c κs = search needs
 
--- src/lib.rt:168:5
 token-requires : tie.Need-token-requires
-token-requires c κs = ?
+token-requires c κs = c .before .contents .ensures .0 _
 
--- src/lib.rt:158:1
 returns : tie.Need-returns
-returns c = ?
+unfolding kind kind-names number-from
+returns c =
+    let g = c .before .before .before .before .before .before .before .before .before .before .before in
+    let b = c .before .before in
+    λ f acc h e. close-reads _ _ (g .pre) (b .before .before .before .before .pos-of .ensures) (c .before .advance .ensures) (c .token .ensures) f acc (b .contents .ensures .1 _ _ f acc h e)
 
 pub close-spec : {M : Type 1} → statement M
 close-spec =

@@ -30,13 +30,17 @@ last-move-requires : tie.Need-last-move-requires
 last-move-requires c κs = search needs
 
 returns-2 : tie.Need-returns-2
-returns-2 c = let d = c .before .before .before in stop-last _ _ (sym (d .before .before .before .match-newline .ensures) ∙ d .before .enum-told .given .1) (sym (d .match-escape .ensures) ∙ c .before .enum-told2 .given .1) (c .last-move .ensures)
+returns-2 c =
+    let d = c .before .before .before in
+    stop-last _ _ (sym (d .before .before .before .match-newline .ensures) ∙ d .before .enum-told .given .1) (sym (d .match-escape .ensures) ∙ c .before .enum-told2 .given .1) (c .last-move .ensures)
 
 escape-move-requires : tie.Need-escape-move-requires
 escape-move-requires c κs = search needs
 
 returns-3 : tie.Need-returns-3
-returns-3 c = let d = c .before .before .before .before in stop-escape _ _ _ (sym (d .before .before .before .match-newline .ensures) ∙ d .before .enum-told .given .1) (sym (d .match-escape .ensures) ∙ c .before .before .e .given .1) (c .escape-move .ensures)
+returns-3 c =
+    let d = c .before .before .before .before in
+    stop-escape _ _ _ (sym (d .before .before .before .match-newline .ensures) ∙ d .before .enum-told .given .1) (sym (d .match-escape .ensures) ∙ c .before .before .e .given .1) (c .escape-move .ensures)
 
 pub stop-move-spec : {M : Type 1} → statement M
 stop-move-spec =

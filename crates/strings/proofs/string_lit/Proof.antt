@@ -1,66 +1,64 @@
+-- The invariant is `Reading`: what is still to be read gives what the whole gives. The measure is what is left of the text.
+use Prim.Native.Nat.{_-_}
+use mathlib.Core.Path.{sym}
+use lib.ListN.{length}
+use Rattle.strings.proofs.LoopLaws.{Reading, reading-starts, reading-turns, reading-small, reading-ends, reading-goes-on}
 use native.Mathlib.Omega.{arith}
 use borrow.Author.Needs.{needs}
 use Rattle.strings.proofs.string_lit.Statement.{statement}
 use Rattle.strings.proofs.string_lit.Tie as tie
-use Rattle.strings.proofs.string_lit.Reads as reads
-use Rattle.strings.proofs.string_lit.Lts as lts
-use Rattle.strings.proofs.added.Reads as added-reads
-use Rattle.strings.proofs.string_move.Reads as string-move-reads
-use Rattle.strings.proofs.turn.Reads as turn-reads
 
 abbrev Inv-loop : tie.InvT-loop
-Inv-loop text name classes sp from here₀ count₀ here count = ?
+Inv-loop text name classes sp from here₀ count₀ here count = Reading text classes sp from count here₀ here
 
 abbrev μ-loop : tie.MeasureT-loop
-μ-loop text name classes sp from here₀ count₀ here count = ?
+μ-loop text name classes sp from here₀ count₀ here count = length text - here .st .offset
 
--- src/lib.rt:204:16
 cast-from : tie.Need-cast-from Inv-loop μ-loop
-cast-from c = ?
+cast-from c = search needs
 
--- src/lib.rt:207:5
 loop-holds : tie.Need-loop-holds Inv-loop μ-loop
-loop-holds c = ?
+loop-holds c = reading-starts (c .before .before .before .before .before .pre)
 
--- src/lib.rt:209:17
 cast-i : tie.Need-cast-i Inv-loop μ-loop
-cast-i c = ?
+cast-i c = search needs
 
--- src/lib.rt:210:13
 string-move-requires : tie.Need-string-move-requires Inv-loop μ-loop
-string-move-requires c κs = ?
+string-move-requires c κs = c .before .before .before .before .before .before .before .before .pre .accepted
 
--- src/lib.rt:211:15
 turn-requires : tie.Need-turn-requires Inv-loop μ-loop
-turn-requires c κs = ?
+turn-requires c κs = reading-turns (c .before .before .before .loop .inv) (c .string-move .ensures)
 
--- src/lib.rt:212:26
 enum-known-r : tie.Need-enum-known-r Inv-loop μ-loop
-enum-known-r c = ?
+enum-known-r c = search needs
 
--- src/lib.rt:213:17
 returns : tie.Need-returns Inv-loop μ-loop
-returns c = ?
+returns c =
+    let d = c .before .before .before in
+    reading-ends (d .before .before .before .before .loop .inv) (d .before .string-move .ensures) _ _ (rw (c .before .r .given .1) at (d .turn .ensures _ _ (sym (d .before .string-move .ensures)) (d .before .before .before .before .loop .inv .held)))
 
--- src/lib.rt:215:27
 enum-known-next : tie.Need-enum-known-next Inv-loop μ-loop
-enum-known-next c = ?
+enum-known-next c = search needs
 
--- src/lib.rt:217:26
 added-requires : tie.Need-added-requires Inv-loop μ-loop
-added-requires c κs = ?
+added-requires c κs = search needs
 
--- src/lib.rt:217:17
-add-count : tie.Need-add-count Inv-loop μ-loop
-add-count c = ?
-
--- src/lib.rt:207:5
-loop-less : tie.Need-loop-less Inv-loop μ-loop
-loop-less c = ?
-
--- src/lib.rt:207:5
 loop-again : tie.Need-loop-again Inv-loop μ-loop
-loop-again c = ?
+loop-again c =
+    let d = c .before .before .before .before in
+    let inv = d .before .before .before .before .loop .inv in
+    let e = d .before .string-move .ensures in
+    reading-goes-on inv e _ _ _ (c .added .ensures) (rw (c .before .before .next .given .1) at (d .turn .ensures _ _ (sym e) (inv .held))) .0
+
+add-count : tie.Need-add-count Inv-loop μ-loop
+add-count c = omega (arith, reading-small (loop-again c))
+
+loop-less : tie.Need-loop-less Inv-loop μ-loop
+loop-less c =
+    let d = c .before .before .before .before in
+    let inv = d .before .before .before .before .loop .inv in
+    let e = d .before .string-move .ensures in
+    reading-goes-on inv e _ _ _ (c .added .ensures) (rw (c .before .before .next .given .1) at (d .turn .ensures _ _ (sym e) (inv .held))) .1
 
 pub string-lit-spec : {M : Type 1} → statement M
 string-lit-spec =

@@ -24,13 +24,17 @@ stop-move-requires : tie.Need-stop-move-requires
 stop-move-requires c κs = search needs
 
 returns-2 : tie.Need-returns-2
-returns-2 c = let d = c .before .before .before in move-stop _ _ _ (d .before .before .run-end .ensures) (d .before .if1 .left) (sym (d .broken-line .ensures) ∙ c .before .enum-told .given .1) (c .stop-move .ensures)
+returns-2 c =
+    let d = c .before .before .before in
+    move-stop _ _ _ (d .before .before .run-end .ensures) (d .before .if1 .left) (sym (d .broken-line .ensures) ∙ c .before .enum-told .given .1) (c .stop-move .ensures)
 
 star-anywhite-requires : tie.Need-star-anywhite-requires
 star-anywhite-requires c κs = search needs
 
 returns-3 : tie.Need-returns-3
-returns-3 c = let d = c .before .before .before .before in move-skip _ _ _ (d .before .before .run-end .ensures) _ (d .before .if1 .left) (sym (d .broken-line .ensures) ∙ c .before .before .nl .given .1) (c .star-anywhite .ensures)
+returns-3 c =
+    let d = c .before .before .before .before in
+    move-skip _ _ _ (d .before .before .run-end .ensures) _ (d .before .if1 .left) (sym (d .broken-line .ensures) ∙ c .before .before .nl .given .1) (c .star-anywhite .ensures)
 
 pub string-move-spec : {M : Type 1} → statement M
 string-move-spec =

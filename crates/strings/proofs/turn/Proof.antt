@@ -1,97 +1,97 @@
-use native.Mathlib.Omega.{arith}
+-- Each arm answers what the definition's turn makes of what stands there.
+use mathlib.Core.Path.{sym, _∙_}
+use Rattle.strings.proofs.ReadLaws.{on-fits, line-fits, on-known, line-known, move-turns}
+use Rattle.strings.proofs.LiteralLaws.{literal-closed}
 use borrow.Author.Needs.{needs}
 use Rattle.strings.proofs.turn.Statement.{statement}
 use Rattle.strings.proofs.turn.Tie as tie
-use Rattle.strings.proofs.turn.Reads as reads
-use Rattle.strings.proofs.turn.Lts as lts
-use Rattle.described.proofs.places.moved.Reads as moved-reads
-use Rattle.described.proofs.places.next_line.Reads as next-line-reads
-use Rattle.described.proofs.tokens.error_here.Reads as error-here-reads
-use Rattle.strings.proofs.close.Reads as close-reads
 
--- src/lib.rt:188:20
 enum-known-m : tie.Need-enum-known-m
 enum-known-m c = search needs
 
--- src/lib.rt:188:40
 moved-requires : tie.Need-moved-requires
-moved-requires c κs = ?
+moved-requires c κs =
+    let g = c .before .before .before .before .before .before .before in
+    on-fits (g .args .at .st) (rw (c .before .m .given .1) at (g .pre .safe) .0)
 
--- src/lib.rt:189:20
 enum-known-m-2 : tie.Need-enum-known-m-2
 enum-known-m-2 c = search needs
 
--- src/lib.rt:189:40
 next-line-requires : tie.Need-next-line-requires
-next-line-requires c κs = ?
+next-line-requires c κs =
+    let g = c .before .before .before .before .before .before .before in
+    line-fits (g .args .at .st) (rw (c .before .m2 .given .1) at (g .pre .safe) .0)
 
--- src/lib.rt:190:20
 enum-known-m-3 : tie.Need-enum-known-m-3
 enum-known-m-3 c = search needs
 
--- src/lib.rt:190:40
 next-line-requires-2 : tie.Need-next-line-requires-2
-next-line-requires-2 c κs = ?
+next-line-requires-2 c κs =
+    let g = c .before .before .before .before .before .before .before in
+    line-fits (g .args .at .st) (rw (c .before .m3 .given .1) at (g .pre .safe) .0)
 
--- src/lib.rt:191:23
 enum-known-m-4 : tie.Need-enum-known-m-4
 enum-known-m-4 c = search needs
 
--- src/lib.rt:191:43
 moved-requires-2 : tie.Need-moved-requires-2
-moved-requires-2 c κs = ?
+moved-requires-2 c κs =
+    let g = c .before .before .before .before .before .before .before in
+    on-fits (g .args .at .st) (rw (c .before .m4 .given .1) at (g .pre .safe) .0)
 
--- src/lib.rt:192:41
 enum-told : tie.Need-enum-told
 enum-told c = search needs
 
--- src/lib.rt:192:41
 error-here-requires : tie.Need-error-here-requires
 error-here-requires c κs = search needs
 
--- src/lib.rt:193:21
 enum-known-m-5 : tie.Need-enum-known-m-5
 enum-known-m-5 c = search needs
 
--- src/lib.rt:193:40
 close-requires : tie.Need-close-requires
-close-requires c κs = ?
+close-requires c κs =
+    let g = c .before .before .before .before .before .before .before in
+    record { standing = g .pre .standing; next = rw (c .before .m5 .given .1) at (g .pre .safe); small = g .pre .small }
 
--- src/lib.rt:194:36
 enum-told-2 : tie.Need-enum-told-2
 enum-told-2 c = search needs
 
--- src/lib.rt:194:36
 error-here-requires-2 : tie.Need-error-here-requires-2
 error-here-requires-2 c κs = search needs
 
--- src/lib.rt:181:1
 returns : tie.Need-returns
-returns c = ?
+returns c =
+    let g = c .before .before .before .before .before .before .before .before in
+    λ f acc q h. move-turns _ _ _ _ _ _ _ (c .before .before .m .given .1) f acc (on-known (g .pre .standing) (c .moved .ensures))
 
--- src/lib.rt:181:1
 returns-2 : tie.Need-returns-2
-returns-2 c = ?
+returns-2 c =
+    let g = c .before .before .before .before .before .before .before .before in
+    λ f acc q h. move-turns _ _ _ _ _ _ _ (c .before .before .m2 .given .1) f acc (line-known (g .pre .standing) (c .next-line .ensures))
 
--- src/lib.rt:181:1
 returns-3 : tie.Need-returns-3
-returns-3 c = ?
+returns-3 c =
+    let g = c .before .before .before .before .before .before .before .before in
+    λ f acc q h. move-turns _ _ _ _ _ _ _ (c .before .before .m3 .given .1) f acc (line-known (g .pre .standing) (c .next-line2 .ensures))
 
--- src/lib.rt:181:1
 returns-4 : tie.Need-returns-4
-returns-4 c = ?
+returns-4 c =
+    let g = c .before .before .before .before .before .before .before .before in
+    λ f acc q h. move-turns _ _ _ _ _ _ _ (c .before .before .m4 .given .1) f acc (on-known (g .pre .standing) (c .moved2 .ensures))
 
--- src/lib.rt:181:1
 returns-5 : tie.Need-returns-5
-returns-5 c = ?
+returns-5 c =
+    let g = c .before .before .before .before .before .before .before in
+    λ f acc q h. move-turns _ _ _ _ _ _ _ (c .before .enum-told .given .1) f acc (c .error-here .ensures f)
 
--- src/lib.rt:181:1
 returns-6 : tie.Need-returns-6
-returns-6 c = ?
+returns-6 c =
+    let g = c .before .before .before .before .before .before .before .before in
+    λ f acc q h. move-turns _ _ _ _ _ _ _ (c .before .before .m5 .given .1) f acc (c .close .ensures f acc h (sym (h .spells) ∙ literal-closed _ _ _ _ _ (q ∙ c .before .before .m5 .given .1)))
 
--- src/lib.rt:181:1
 returns-7 : tie.Need-returns-7
-returns-7 c = ?
+returns-7 c =
+    let g = c .before .before .before .before .before .before .before in
+    λ f acc q h. move-turns _ _ _ _ _ _ _ (c .before .enum-told2 .given .1) f acc (c .error-here2 .ensures f)
 
 pub turn-spec : {M : Type 1} → statement M
 turn-spec =
