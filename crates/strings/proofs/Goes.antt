@@ -1,12 +1,10 @@
 -- Where what stands in a literal ends: behind its start, and within the text; and what it adds is no longer than it is. Rests on
 -- the ends of matchers and runs (crate `progress`) and on what escapes stand for.
-use Prim.Native.Nat.{ℕ, _+_, _-_, _≤_, _<_}
-use mathlib.Core.Path.{_≡_, refl}
+use Prim.Native.Nat.{ℕ, _+_}
+use mathlib.Core.Path.{_≡_}
 use native.Mathlib.Omega.{arith}
-use lib.Dec.{ltb, leb}
 use lib.ListN.{length}
 use Rattle.definition.specs.Basics.{Bytes, ch}
-use Rattle.definition.specs.Utf8.{encode}
 use Rattle.definition.specs.Text.{byte-is, star}
 use Rattle.definition.specs.Chars.{is-anywhite}
 use Rattle.definition.specs.Matchers.{match-newline, match-escape}
@@ -18,30 +16,9 @@ use Rattle.lemmas.proofs.Cases.{by-test, by-lt, by-le, by-match}
 use Rattle.progress.proofs.Walks.{Onward, walk-past, onward-walk, star-walks}
 use Rattle.progress.proofs.Ends.{Ends, ends-only}
 use Rattle.progress.proofs.Matches.{behind, byte-is-onward, newline-ends, escape-ends}
-use Rattle.strings.specs.declared.Move.{Move}
-use Rattle.strings.specs.declared.Move.the-variants.{Copy, Skip, Line, Char, Surrogate, Close, Open}
 use Rattle.strings.specs.Moves.{escape-move, last-move, stop-move, broken-line, string-move}
+use Rattle.strings.specs.Literal.{Past, Goes}
 use Rattle.strings.proofs.EscapeLaws.{escape-shrinks}
-
--- e is behind i and within the text
-pub record Past (s : Bytes) (i e : ℕ) : Type 0 where
-  pub past : i < e
-  pub within : e ≤ length s
-
--- c has bytes, fewer than there are from i up to e
-pub record Fewer (i c e : ℕ) : Type 0 where
-  pub small : c ≤ 0x10FFFF
-  pub fewer : length (encode c) < e - i
-
--- what a move from i ends at
-abbrev pub Goes : Bytes → ℕ → Move → Type 0
-Goes s i (Copy e) = Past s i e
-Goes s i (Skip e) = Past s i e
-Goes s i (Line e) = Past s i e
-Goes s i (Char c e) = Past s i e × Fewer i c e
-Goes s i Surrogate = Unit {0}
-Goes s i (Close e) = Past s i e
-Goes s i Open = Unit {0}
 
 module _ (s : Bytes) (i : ℕ) where
   -- a walk of a character or more

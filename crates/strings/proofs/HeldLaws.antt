@@ -14,8 +14,7 @@ use Rattle.described.specs.Described.{literal}
 use Rattle.strings.specs.declared.Move.{Move}
 use Rattle.strings.specs.declared.Move.the-variants.{Copy, Skip, Line, Char, Surrogate, Close, Open}
 use Rattle.strings.specs.Moves.{string-move}
-use Rattle.strings.specs.Literal.{adds, ends-at, On, literal-from, Held}
-use Rattle.strings.proofs.Goes.{Past, Goes}
+use Rattle.strings.specs.Literal.{Past, Goes, adds, ends-at, On, literal-from, Held}
 use Rattle.strings.proofs.LiteralLaws.{literal-starts, literal-on}
 
 -- a part and the part behind it

@@ -35,7 +35,7 @@ ghost use Rattle.definition.specs.Strings.{string-lit};
 ghost use Rattle.described.specs.Described.{literal, Sized, Describes, Reads, Turns};
 ghost use Rattle.described.specs.Standing.{Standing};
 ghost use Rattle.strings.specs.Moves.{escape-move, last-move, stop-move, broken-line, string-move};
-ghost use Rattle.strings.specs.Literal.{added, closed, does, states, Held};
+ghost use Rattle.strings.specs.Literal.{added, ends-at, closed, does, states, Held};
 ghost use Rattle.strings.specs.Contracts.{Closing, Turning, Reader};
 
 const STRING: u32 = 148;
@@ -132,6 +132,21 @@ pub fn added(m: Move, i: usize) -> usize
         Move::Surrogate => 0,
         Move::Close(_) => 0,
         Move::Open => 0,
+    }
+}
+
+// Where a move from i ends.
+pub fn end_of(m: Move, i: usize) -> usize
+    ensures { λ r. ⌜ r ≡ ends-at i m ⌝ }
+{
+    match m {
+        Move::Copy(e) => e,
+        Move::Skip(e) => e,
+        Move::Line(e) => e,
+        Move::Char(_, e) => e,
+        Move::Surrogate => i,
+        Move::Close(e) => e,
+        Move::Open => i,
     }
 }
 
