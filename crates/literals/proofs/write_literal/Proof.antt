@@ -1,66 +1,55 @@
+-- The invariant is `Writing`: what is written begins the literal. The measure is what is left of the text.
+use Prim.Native.Nat.{_-_}
+use lib.ListN as list
+use Rattle.literals.proofs.WriteLaws.{Writing, writing-starts, writing-length, writing-ends, writing-puts, writing-fits, writing-less, writing-on}
 use native.Mathlib.Omega.{arith}
 use borrow.Author.Needs.{needs}
 use Rattle.literals.proofs.write_literal.Statement.{statement}
 use Rattle.literals.proofs.write_literal.Tie as tie
-use Rattle.literals.proofs.write_literal.Reads as reads
-use Rattle.literals.proofs.write_literal.Lts as lts
-use Rattle.literals.proofs.put.Reads as put-reads
-use Rattle.strings.proofs.end_of.Reads as end-of-reads
-use Rattle.strings.proofs.string_move.Reads as string-move-reads
 
 abbrev Inv-loop : tie.InvT-loop
-Inv-loop text classes from length out₀ i₀ at₀ out i at = ?
+Inv-loop text classes from length out₀ i₀ at₀ out i at = Writing text classes from length out₀ i at out
 
 abbrev μ-loop : tie.MeasureT-loop
-μ-loop text classes from length out₀ i₀ at₀ out i at = ?
+μ-loop text classes from length out₀ i₀ at₀ out i at = list.length text - i
 
--- src/lib.rt:54:5
 loop-holds : tie.Need-loop-holds Inv-loop μ-loop
-loop-holds c = ?
+loop-holds c = writing-starts (c .before .before .before .pre)
 
--- src/lib.rt:55:13
 string-move-requires : tie.Need-string-move-requires Inv-loop μ-loop
-string-move-requires c κs = ?
+string-move-requires c κs = c .before .before .before .before .before .pre .accepted
 
--- src/lib.rt:56:31
 sub-put : tie.Need-sub-put Inv-loop μ-loop
-sub-put c = ?
+sub-put c =
+    let w = c .before .before .loop .inv in
+    omega (arith, writing-length w, w .room, c .before .loop-test .taken)
 
--- src/lib.rt:56:31
 part-put-start : tie.Need-part-put-start Inv-loop μ-loop
-part-put-start c = ?
+part-put-start c = sub-put c
 
--- src/lib.rt:56:31
 part-put-end : tie.Need-part-put-end Inv-loop μ-loop
-part-put-end c = ?
+part-put-end c = search needs
 
--- src/lib.rt:56:15
 put-requires : tie.Need-put-requires Inv-loop μ-loop
-put-requires c κs = ?
+put-requires c κs = writing-puts (c .before .before .before .loop .inv) (c .before .before .loop-test .taken) (c .before .string-move .ensures)
 
--- src/lib.rt:56:9
 add-at : tie.Need-add-at Inv-loop μ-loop
-add-at c = ?
+add-at c = omega (arith, writing-fits (c .before .before .before .before .before .before .loop .inv) (c .before .before .before .before .before .loop-test .taken) (c .before .before .before .before .string-move .ensures) (c .before .before .put .ensures))
 
--- src/lib.rt:57:9
 end-of-requires : tie.Need-end-of-requires Inv-loop μ-loop
-end-of-requires c κs = ?
+end-of-requires c κs = search needs
 
--- src/lib.rt:54:5
 loop-less : tie.Need-loop-less Inv-loop μ-loop
-loop-less c = ?
+loop-less c = writing-less (c .before .before .before .before .before .before .before .loop .inv) (c .before .before .before .before .before .before .loop-test .taken) (c .before .before .before .before .before .string-move .ensures) (c .end-of .ensures)
 
--- src/lib.rt:54:5
 loop-again : tie.Need-loop-again Inv-loop μ-loop
-loop-again c = ?
+loop-again c = writing-on (c .before .before .before .before .before .before .before .loop .inv) (c .before .before .before .before .before .before .loop-test .taken) (c .before .before .before .before .before .string-move .ensures) (c .before .before .before .put .ensures) (c .end-of .ensures)
 
--- src/lib.rt:48:1
 same-length : tie.Need-same-length Inv-loop μ-loop
-same-length c = ?
+same-length c = writing-length (c .before .loop .inv)
 
--- src/lib.rt:48:1
 returns : tie.Need-returns Inv-loop μ-loop
-returns c = ?
+returns c = writing-ends (c .before .loop .inv) (c .loop-test .left)
 
 pub write-literal-spec : {M : Type 1} → statement M
 write-literal-spec =
