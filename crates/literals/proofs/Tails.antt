@@ -1,9 +1,9 @@
 -- A buffer whose front is written, and whose tail was lent to be written on. Rests on the laws of buffers that are written over.
 use Prim.Native.Nat.{ℕ, _+_, _-_, _≤_}
-use mathlib.Core.Path.{_≡_, refl, sym, ap, _∙_}
+use mathlib.Core.Path.{_≡_, sym, ap, _∙_}
 use mathlib.Core.List.{List, [], _++_, append-nil, append-assoc}
 use native.Mathlib.Nat.{le-refl}
-use lib.ListN.{length, take, drop, length-append, length-take, length-drop, drop-of-length-le}
+use lib.ListN.{length, take, drop, length-append, length-drop, drop-of-length-le}
 use lib.Seq.{take-all, take-append-seam, drop-append-seam, drop-drop}
 use Rattle.lemmas.specs.Over.{over}
 

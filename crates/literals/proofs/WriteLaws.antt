@@ -12,7 +12,7 @@ use Rattle.described.specs.Described.{literal}
 use Rattle.strings.specs.declared.Move.{Move}
 use Rattle.strings.specs.declared.Move.the-variants.{Copy, Skip, Line, Char, Surrogate, Close, Open}
 use Rattle.strings.specs.Moves.{string-move}
-use Rattle.strings.specs.Literal.{adds, ends-at, On, Goes, Past, literal-from}
+use Rattle.strings.specs.Literal.{adds, ends-at, On, Goes, literal-from}
 use Rattle.strings.proofs.Goes.{move-goes}
 use Rattle.strings.proofs.LiteralLaws.{literal-starts, literal-on, literal-closed, literal-surrogate, literal-open}
 use Rattle.strings.proofs.Growth.{literal-grows, grows-longer, grows-ends}

@@ -1,7 +1,7 @@
 -- An escape stands for fewer bytes than it has, and for a number that has bytes. Rests on the laws of escapes and of UTF-8.
-use Prim.Native.Nat.{ℕ, suc, _+_, _-_, _*_, _≤_, _<_}
+use Prim.Native.Nat.{ℕ, _+_, _-_, _*_, _≤_, _<_}
 use mathlib.Core.Path.{_≡_, refl, sym, ap, subst, _∙_}
-use mathlib.Core.Bool.{Bool, true, false, _&&_}
+use mathlib.Core.Bool.{true, false}
 use mathlib.Core.List.{[], _∷_}
 use native.Mathlib.Numerals.{add-one}
 use native.Mathlib.Omega.{arith}
@@ -9,7 +9,7 @@ use lib.Dec.{eqb}
 use lib.ListN.{length, getD}
 use lib.Seq.{slice, slice-cons, slice-empty}
 use borrow.Author.Tests.{eqb-true}
-use Rattle.definition.specs.Basics.{Bytes, ch, codes, mem-cp, if_then_else_}
+use Rattle.definition.specs.Basics.{Bytes, ch, codes, mem-cp}
 use Rattle.definition.specs.Utf8.{encode}
 use Rattle.definition.specs.Text.{byte-has, byte-is}
 use Rattle.definition.specs.Chars.{is-hex}

@@ -5,7 +5,7 @@ use mathlib.Core.Path.{_≡_}
 use native.Mathlib.Omega.{arith}
 use lib.ListN.{length}
 use Rattle.definition.specs.Basics.{Bytes, ch}
-use Rattle.definition.specs.Text.{byte-is, star}
+use Rattle.definition.specs.Text.{byte-is}
 use Rattle.definition.specs.Chars.{is-anywhite}
 use Rattle.definition.specs.Matchers.{match-newline, match-escape}
 use Rattle.definition.specs.Escapes.{unescape, is-surrogate}

@@ -1,6 +1,6 @@
 -- A literal that is read up to some byte, move by move, and what its bytes are described by. Rests on what a literal holds and on
 -- where moves end.
-use Prim.Native.Nat.{ℕ, _+_, _-_, _≤_, _<_}
+use Prim.Native.Nat.{ℕ, _+_, _-_, _≤_}
 use mathlib.Core.Path.{_≡_, refl, sym, ap, ap₂, _∙_}
 use mathlib.Core.List.{[], _++_}
 use native.Mathlib.Omega.{arith}
@@ -10,7 +10,6 @@ use Rattle.definition.specs.Basics.{Bytes}
 use Rattle.definition.specs.Text.{lexeme}
 use Rattle.definition.specs.Utf8.{encode}
 use Rattle.lemmas.proofs.Lists.{slice-then-drop}
-use Rattle.described.specs.Described.{literal}
 use Rattle.strings.specs.declared.Move.{Move}
 use Rattle.strings.specs.declared.Move.the-variants.{Copy, Skip, Line, Char, Surrogate, Close, Open}
 use Rattle.strings.specs.Moves.{string-move}

@@ -4,10 +4,10 @@ use Prim.Native.Nat.{ℕ, _+_, _-_, _≤_, _<_}
 use mathlib.Core.Path.{_≡_, refl, sym, subst, _∙_}
 use native.Mathlib.Omega.{arith}
 use lib.ListN.{length}
-use Rattle.definition.specs.Basics.{Bytes, Turn}
+use Rattle.definition.specs.Basics.{Bytes}
 use Rattle.definition.specs.Kinds.{kind}
 use Rattle.definition.specs.State.{advance, new-line}
-use Rattle.definition.specs.Item.{Step, tok}
+use Rattle.definition.specs.Item.{tok}
 use Rattle.definition.specs.declared.Pos.{Pos}
 use Rattle.definition.specs.declared.State.{State}
 use Rattle.definition.specs.declared.Extra.the-variants.{NoExtra}

@@ -1,7 +1,6 @@
 -- A turn does what stands at the state's offset asks for. Rests on nothing but the definition.
-use Prim.Native.Nat.{ℕ, _+_}
+use Prim.Native.Nat.{ℕ}
 use mathlib.Core.Path.{_≡_, refl}
-use mathlib.Core.Bool.{true, false}
 use lib.Dec.{ltb, leb}
 use lib.ListN.{length}
 use Rattle.definition.specs.Basics.{Bytes, ch}

@@ -1,6 +1,5 @@
 -- Each arm writes what the definition's move adds.
 use mathlib.Core.Path.{refl}
-use Rattle.strings.specs.Literal.{adds, Goes}
 use Rattle.literals.proofs.PutLaws.{part-asks, char-asks, nothing-put}
 use borrow.Author.Needs.{needs}
 use Rattle.literals.proofs.put.Statement.{statement}

@@ -1,5 +1,4 @@
 -- Each arm's number is the definition's.
-use Rattle.strings.specs.Literal.{added}
 use borrow.Author.Needs.{needs}
 use Rattle.strings.proofs.added.Statement.{statement}
 use Rattle.strings.proofs.added.Tie as tie
