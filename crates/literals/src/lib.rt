@@ -15,7 +15,7 @@ ghost use Rattle.strings.specs.Literal.{adds};
 ghost use Rattle.literals.specs.Contracts.{Copies, Puts, Writes};
 
 // Copies the bytes of the text from i up to e to the front of the buffer, and says how many they are.
-fn copy_part(text: &[u8], i: usize, e: usize, out: &mut [u8]) -> usize
+pub fn copy_part(text: &[u8], i: usize, e: usize, out: &mut [u8]) -> usize
     requires { ⌜ Copies (now text) i e (now out) ⌝ }
     ensures { λ r. ⌜ Wrote (lexeme (now (text .entry)) i e) (now (out .entry)) (now (out .exit)) r ⌝ }
 {

@@ -1,41 +1,17 @@
--- The bytes of a part, and what stands in a buffer when parts are written one behind the other. Rests on the laws of lists and of
--- buffers that are written over.
+-- What stands in a buffer when parts are written one behind the other. Rests on the laws of buffers that are written over.
 use Prim.Native.Nat.{ℕ, suc, _+_, _-_, _≤_, _<_}
 use mathlib.Core.Path.{_≡_, sym, ap, _∙_}
 use mathlib.Core.List.{List, [], _∷_, _++_}
 use native.Mathlib.Nat.{le-refl}
 use native.Mathlib.Omega.{arith}
-use lib.ListN.{length, getD, take, set, length-set}
-use lib.Seq.{slice, length-slice, take-all, getD-drop, getD-take}
+use lib.ListN.{length, set, length-set}
+use lib.Seq.{slice, length-slice, take-all}
 use borrow.Rule.Slice.PartMut.{midOf, putMid}
 use Rattle.definition.specs.Basics.{Bytes}
 use Rattle.definition.specs.Run.{put}
 use Rattle.lemmas.specs.Over.{over, Wrote}
-use Rattle.lemmas.proofs.Copies.{write-on, Copied, copied-starts, copied-goes-on, copied-ends, copied-length}
+use Rattle.lemmas.proofs.Copies.{write-on}
 use Rattle.lemmas.proofs.Tails.{tail-back, write-more, length-put}
-
--- ---- one part, byte by byte
-
-module _ (s : Bytes) (from to : ℕ) (h : to ≤ length s) where
-  pub part-starts : {l : List ℕ} → to - from ≤ length l → Copied (slice from to s) l 0 l
-  part-starts {l} r = copied-starts (slice from to s) l (omega (arith, length-slice from to s h))
-
-  module _ {l m : List ℕ} {j : ℕ} (c : Copied (slice from to s) l j m) where
-    -- there is room for the next byte
-    pub part-room : j < to - from → j < length m
-    part-room k = omega (arith, length-slice from to s h, c .room, copied-length c)
-
-    -- the next byte of the part is that of the whole
-    pub part-goes-on : j < to - from → Copied (slice from to s) l (j + 1) (set m j (getD s (from + j) 0))
-    part-goes-on k =
-        let i : j < length (slice from to s) = omega (arith, length-slice from to s h) in
-        let i′ : from + j < to = omega arith in
-        copied-goes-on c i (sym (getD-drop from (take to s) j 0 ∙ getD-take to s (from + j) 0 i′))
-
-    pub part-ends : to - from ≤ j → m ≡ over (slice from to s) l
-    part-ends k = copied-ends c (omega (arith, length-slice from to s h))
-
--- ---- what is written behind
 
 -- a lent tail that was written over
 pub lent : (l tail vs : List ℕ) (at : ℕ) → tail ≡ over vs (midOf at (length l - at) l) → putMid at (length l - at) l tail ≡ put l at vs

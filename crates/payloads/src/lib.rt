@@ -3,8 +3,13 @@
 // Proved: exactly the bytes that the description stands for are written, and the rest of the buffer keeps what it held.
 // Assumed: nothing but what each function's `requires` says: the description is right for the text, and the buffer has
 // room for its bytes.
+use described::Payload;
 use described::span;
+use entries::text_into;
+use literals::copy_part;
+use literals::write_literal;
 use numerals::show_into;
+use trim::write_trimmed;
 ghost use mathlib.Core.Path.{_≡_};
 ghost use mathlib.Core.List.{_∷_, _++_};
 ghost use Prim.Native.Nat.{_+_, _-_, _≤_};
@@ -14,26 +19,15 @@ ghost use Rattle.definition.specs.Basics.{ch};
 ghost use Rattle.definition.specs.Tables.{cps};
 ghost use Rattle.definition.specs.Numbers.{show};
 ghost use Rattle.lemmas.specs.Over.{over};
-
-// Writes a part of some bytes.
-fn write_part(bytes: &[u8], from: usize, to: usize, out: &mut [u8])
-    requires { ⌜ (to ≤ length (now bytes)) × (to - from ≤ length (now out)) ⌝ }
-    ensures { λ r. ⌜ now (out .exit) ≡ over (slice from to (now (bytes .entry))) (now (out .entry)) ⌝ }
-{
-    let n = span(from, to);
-    let mut j = 0;
-    while j < n {
-        out[j] = bytes[from + j];
-        j += 1;
-    }
-}
+ghost use Rattle.described.specs.Described.{bytes-of};
+ghost use Rattle.payloads.specs.Writable.{Writable};
 
 // Writes `>` and a part of the text.
 fn write_greater(text: &[u8], from: usize, to: usize, out: &mut [u8])
     requires { ⌜ (to ≤ length (now text)) × (1 + (to - from) ≤ length (now out)) ⌝ }
     ensures { λ r. ⌜ now (out .exit) ≡ over (ch ">" ∷ slice from to (now (text .entry))) (now (out .entry)) ⌝ }
 {
-    write_part(text, from, to, &mut out[1..]);
+    copy_part(text, from, to, &mut out[1..]);
     out[0] = b'>';
 }
 
@@ -53,7 +47,7 @@ fn write_file_line(name: &[u8], line: u32, out: &mut [u8])
     ensures { λ r. ⌜ now (out .exit) ≡ over (now (name .entry) ++ (cps "(" ++ (show line ++ cps ")"))) (now (out .entry)) ⌝ }
 {
     let n = name.len();
-    write_part(name, 0, n, out);
+    copy_part(name, 0, n, out);
     write_mark(line, &mut out[n..]);
 }
 
@@ -63,6 +57,40 @@ fn write_parts(text: &[u8], from: usize, to: usize, contents: usize, end: usize,
     ensures { λ r. ⌜ now (out .exit) ≡ over (slice from to (now (text .entry)) ++ slice contents end (now (text .entry))) (now (out .entry)) ⌝ }
 {
     let n = span(from, to);
-    write_part(text, from, to, out);
-    write_part(text, contents, end, &mut out[n..]);
+    copy_part(text, from, to, out);
+    copy_part(text, contents, end, &mut out[n..]);
+}
+
+// Writes the bytes that a description stands for to the front of the buffer.
+pub fn write(text: &[u8], name: &[u8], classes: &[u8], payload: Payload, out: &mut [u8])
+    requires { ⌜ Writable (now text) (now name) (now classes) payload (now out) ⌝ }
+    ensures { λ r. ⌜ now (out .exit) ≡ over (bytes-of (now (text .entry)) (now (name .entry)) (now (classes .entry)) payload) (now (out .entry)) ⌝ }
+{
+    match payload {
+        Payload::Part { from, to } => {
+            copy_part(text, from, to, out);
+        }
+        Payload::Text(k) => text_into(k, out),
+        Payload::Greater { from, to } => write_greater(text, from, to, out),
+        Payload::Name => {
+            copy_part(name, 0, name.len(), out);
+        }
+        Payload::Line(n) => {
+            show_into(n, out);
+        }
+        Payload::FileLine(n) => write_file_line(name, n, out),
+        Payload::Literal { from, length } => write_literal(text, classes, from, length, out),
+        Payload::Piece {
+            from,
+            to,
+            width,
+            length: _,
+        } => write_trimmed(text, from, to, width, out),
+        Payload::Blob {
+            from,
+            to,
+            contents,
+            end,
+        } => write_parts(text, from, to, contents, end, out),
+    }
 }

@@ -8,8 +8,8 @@ use borrow.Author.Needs.{needs}
 use Rattle.payloads.proofs.write_file_line.Statement.{statement}
 use Rattle.payloads.proofs.write_file_line.Tie as tie
 
-write-part-requires : tie.Need-write-part-requires
-write-part-requires c κs = search needs
+copy-part-requires : tie.Need-copy-part-requires
+copy-part-requires c κs = search needs
 
 sub-write-mark : tie.Need-sub-write-mark
 sub-write-mark c = search needs
@@ -32,13 +32,13 @@ returns c =
     let g = d .before .before .before .before .before .before .before .before in
     let room : length (g .args .name .now) ≤ length (g .args .out .now) = omega (arith, g .pre) in
     behind (g .args .out .now) _ _ (g .args .name .now) _ _
-    (d .before .before .before .before .write-part .ensures ∙ whole (g .args .name .now) (g .args .out .now)) refl room (d .write-mark .ensures)
+    (d .before .before .before .before .copy-part .ensures .bytes ∙ whole (g .args .name .now) (g .args .out .now)) refl room (d .write-mark .ensures)
 
 pub write-file-line-spec : {M : Type 1} → statement M
 write-file-line-spec =
     tie.close
     (tie.spec
-    write-part-requires
+    copy-part-requires
     sub-write-mark
     part-write-mark-start
     part-write-mark-end

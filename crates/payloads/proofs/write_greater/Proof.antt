@@ -5,17 +5,17 @@ use borrow.Author.Needs.{needs}
 use Rattle.payloads.proofs.write_greater.Statement.{statement}
 use Rattle.payloads.proofs.write_greater.Tie as tie
 
-sub-write-part : tie.Need-sub-write-part
-sub-write-part c = search needs
+sub-copy-part : tie.Need-sub-copy-part
+sub-copy-part c = search needs
 
-part-write-part-start : tie.Need-part-write-part-start
-part-write-part-start c = search needs
+part-copy-part-start : tie.Need-part-copy-part-start
+part-copy-part-start c = search needs
 
-part-write-part-end : tie.Need-part-write-part-end
-part-write-part-end c = search needs
+part-copy-part-end : tie.Need-part-copy-part-end
+part-copy-part-end c = search needs
 
-write-part-requires : tie.Need-write-part-requires
-write-part-requires c κs = search needs
+copy-part-requires : tie.Need-copy-part-requires
+copy-part-requires c κs = search needs
 
 slice-write-out : tie.Need-slice-write-out
 slice-write-out c = search needs
@@ -24,16 +24,16 @@ same-length : tie.Need-same-length
 same-length c = search needs
 
 returns : tie.Need-returns
-returns c = in-front _ _ _ _ (omega (arith, c .before .before .before .before .before .before .pre .1)) (c .before .before .write-part .ensures)
+returns c = in-front _ _ _ _ (omega (arith, c .before .before .before .before .before .before .pre .1)) (c .before .before .copy-part .ensures .bytes)
 
 pub write-greater-spec : {M : Type 1} → statement M
 write-greater-spec =
     tie.close
     (tie.spec
-    sub-write-part
-    part-write-part-start
-    part-write-part-end
-    write-part-requires
+    sub-copy-part
+    part-copy-part-start
+    part-copy-part-end
+    copy-part-requires
     slice-write-out
     same-length
     returns)

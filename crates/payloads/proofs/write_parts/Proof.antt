@@ -12,20 +12,20 @@ use Rattle.payloads.proofs.write_parts.Tie as tie
 span-requires : tie.Need-span-requires
 span-requires c κs = search needs
 
-write-part-requires : tie.Need-write-part-requires
-write-part-requires c κs = search needs
+copy-part-requires : tie.Need-copy-part-requires
+copy-part-requires c κs = search needs
 
-sub-write-part : tie.Need-sub-write-part
-sub-write-part c = search needs
+sub-copy-part : tie.Need-sub-copy-part
+sub-copy-part c = search needs
 
-part-write-part-start : tie.Need-part-write-part-start
-part-write-part-start c = search needs
+part-copy-part-start : tie.Need-part-copy-part-start
+part-copy-part-start c = search needs
 
-part-write-part-end : tie.Need-part-write-part-end
-part-write-part-end c = search needs
+part-copy-part-end : tie.Need-part-copy-part-end
+part-copy-part-end c = search needs
 
-write-part-requires-2 : tie.Need-write-part-requires-2
-write-part-requires-2 c κs = search needs
+copy-part-requires-2 : tie.Need-copy-part-requires-2
+copy-part-requires-2 c κs = search needs
 
 same-length : tie.Need-same-length
 same-length c = search needs
@@ -38,17 +38,18 @@ returns c =
     let a = g .before .before .before in
     let p = a .pre in
     let room : a .args .to - a .args .from ≤ length (a .args .out .now) = omega (arith, p .1) in
-    behind _ _ _ _ _ _ (b .write-part .ensures) (g .span .ensures ∙ sym (length-slice _ _ _ (p .0 .0))) (part-fits _ _ _ _ (p .0 .0) room) (d .write-part2 .ensures)
+    behind _ _ _ _ _ _ (b .copy-part .ensures .bytes) (g .span .ensures ∙ sym (length-slice _ _ _ (p .0 .0))) (part-fits _ _ _ _ (p .0 .0) room)
+    (d .copy-part2 .ensures .bytes)
 
 pub write-parts-spec : {M : Type 1} → statement M
 write-parts-spec =
     tie.close
     (tie.spec
     span-requires
-    write-part-requires
-    sub-write-part
-    part-write-part-start
-    part-write-part-end
-    write-part-requires-2
+    copy-part-requires
+    sub-copy-part
+    part-copy-part-start
+    part-copy-part-end
+    copy-part-requires-2
     same-length
     returns)

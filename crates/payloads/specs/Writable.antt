@@ -1,0 +1,15 @@
+-- What the writer of payloads asks for. s is the text, name the file's name, f the class file, out the buffer that is lent.
+use Prim.Native.Nat.{_≤_}
+use mathlib.Core.Path.{_≡_}
+use lib.ListN.{length}
+use Rattle.definition.specs.Basics.{Bytes}
+use Rattle.definition.specs.ClassFile.{class-check}
+use Rattle.described.specs.declared.Payload.{Payload}
+use Rattle.described.specs.Described.{bytes-of, length-of, Inside}
+
+-- the description is right for the text, and its bytes fit
+pub record Writable (s name f : Bytes) (p : Payload) (out : Bytes) : Type 0 where
+  pub accepted : class-check f ≡ 0
+  pub long : length-of name p ≡ length (bytes-of s name f p)
+  pub inside : Inside s p
+  pub room : length-of name p ≤ length out
