@@ -1,0 +1,48 @@
+-- One turn of a run, from what the code found: each way that the definition's turn can go. Rests on the laws of buffers that are
+-- lent, and on what it is to read a step.
+use Prim.Native.Nat.{ℕ, _+_, _-_, _*_, _≤_, _<_}
+use mathlib.Core.Path.{_≡_, refl, sym, ap, subst, _∙_}
+use mathlib.Core.Bool.{true, false}
+use mathlib.Core.List.{List}
+use borrow.Author.Tests.{lt-ltb, le-ltb, eq-eqb, ne-eqb}
+use borrow.Rule.Slice.PartMut.{midOf, putMid}
+use lib.ListN.{length}
+use Rattle.definition.specs.Basics.{Bytes, again, done}
+use Rattle.definition.specs.Item.{Step, record-size, words}
+use Rattle.definition.specs.Token.{step}
+use Rattle.definition.specs.Run.{put, Writing, stopped, written, run-turn}
+use Rattle.definition.specs.declared.State.{State}
+use Rattle.lemmas.specs.Over.{over}
+use Rattle.lemmas.proofs.Tails.{tail-back}
+use Rattle.described.specs.declared.Place.{Place}
+use Rattle.described.specs.declared.Read.{Read}
+use Rattle.described.specs.Described.{bytes-of, length-of, Reads, Known-at}
+use Rattle.lexer.specs.declared.Went.the-variants.{Stop, Wrote}
+use Rattle.lexer.specs.Running.{writing, Ran}
+
+module _ (s name f : Bytes) (a : Writing) where
+  -- the reading has ended
+  pub turn-ended : a .state .mode ≡ 2 → run-turn s name f a ≡ done (stopped 0 a)
+  unfolding run-turn
+  turn-ended e = rw (run-turn, eq-eqb (a .state .mode) 2 e)
+
+  module _ (awake : a .state .mode ≡ 2 → ⊥) where
+    -- no room for a record
+    pub turn-full : length (a .records) - record-size * a .count < record-size → run-turn s name f a ≡ done (stopped 1 a)
+    unfolding run-turn
+    turn-full h = rw (run-turn, ne-eqb (a .state .mode) 2 awake, lt-ltb (length (a .records) - record-size * a .count) record-size h)
+
+    module _ (room : record-size ≤ length (a .records) - record-size * a .count) where
+      -- none for the payload
+      pub turn-long : length (a .payload) - a .used < length (step s name f (a .state) .payload) → run-turn s name f a ≡ done (stopped 2 a)
+      unfolding run-turn
+      turn-long h =
+          rw (run-turn, ne-eqb (a .state .mode) 2 awake, le-ltb (length (a .records) - record-size * a .count) record-size room,
+          lt-ltb (length (a .payload) - a .used) (length (step s name f (a .state) .payload)) h)
+
+      -- room for both
+      pub turn-wrote : length (step s name f (a .state) .payload) ≤ length (a .payload) - a .used → run-turn s name f a ≡ again (written a (step s name f (a .state)))
+      unfolding run-turn
+      turn-wrote h =
+          rw (run-turn, ne-eqb (a .state .mode) 2 awake, le-ltb (length (a .records) - record-size * a .count) record-size room,
+          le-ltb (length (a .payload) - a .used) (length (step s name f (a .state) .payload)) h)

@@ -1,0 +1,42 @@
+-- Where a run stands between two items, and what one turn of it does to the buffers. s is the text, name the file's name, f the
+-- class file; rs and ps are the buffers as they are then.
+use Prim.Native.Nat.{ℕ, _+_, _-_, _*_, _≤_, _<_}
+use mathlib.Core.Path.{_≡_}
+use mathlib.Core.List.{List}
+use lib.ListN.{length}
+use Rattle.definition.specs.Basics.{Bytes, Turn, again, done}
+use Rattle.definition.specs.ClassFile.{class-check}
+use Rattle.definition.specs.Item.{record-size}
+use Rattle.definition.specs.Run.{Outcome, Writing}
+use Rattle.definition.specs.declared.State.{State}
+use Rattle.definition.specs.declared.RunAnswer.{RunAnswer}
+use Rattle.described.specs.declared.Place.{Place}
+use Rattle.described.specs.declared.Read.{Read}
+use Rattle.described.specs.Described.{bytes-of, length-of, Inside, Known-at}
+use Rattle.described.specs.Standing.{Standing}
+use Rattle.lexer.specs.declared.Went.{Went}
+use Rattle.lexer.specs.declared.Went.the-variants.{Stop, Wrote}
+
+-- the run, as the definition has it
+abbrev pub writing : Place → ℕ → ℕ → List ℕ → Bytes → Writing
+writing at count used rs ps = record { state = at .st; records = rs; payload = ps; count = count; used = used }
+
+-- the answer of a run that stops
+abbrev pub answered : ℕ → ℕ → State → RunAnswer
+answered stop count st = record { refusal = 0; offset = 0; stop = stop; count = count; state = st }
+
+-- what a turn of the definition says is what the code did: it stopped, or it wrote an item and stands behind it
+abbrev pub Ran : Bytes → Turn Writing Outcome → ℕ → State → Went → List ℕ → Bytes → Type 0
+Ran s t count st (Stop n) rs ps = t ≡ done (answered n count st, rs, ps)
+Ran s t count st (Wrote next used) rs ps = (t ≡ again (writing next (count + 1) used rs ps)) × Known-at s (next .st) (next .known)
+
+-- an item that was read fits: its record from number `first` on, its payload from byte `used` on
+pub record ItemFits (s name f : Bytes) (r : Read) (first used : ℕ) (rs : List ℕ) (ps : Bytes) : Type 0 where
+  pub accepted : class-check f ≡ 0
+  pub long : length-of name (r .payload) ≡ length (bytes-of s name f (r .payload))
+  pub inside : Inside s (r .payload)
+  pub begun : first ≤ length rs
+  pub record-room : record-size ≤ length rs - first
+  pub filled : used ≤ length ps
+  pub payload-room : length-of name (r .payload) ≤ length ps - used
+  pub small : used < 4294967296
