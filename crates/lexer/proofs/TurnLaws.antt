@@ -37,12 +37,45 @@ module _ (s name f : Bytes) (a : Writing) where
       pub turn-long : length (a .payload) - a .used < length (step s name f (a .state) .payload) → run-turn s name f a ≡ done (stopped 2 a)
       unfolding run-turn
       turn-long h =
-          rw (run-turn, ne-eqb (a .state .mode) 2 awake, le-ltb (length (a .records) - record-size * a .count) record-size room,
-          lt-ltb (length (a .payload) - a .used) (length (step s name f (a .state) .payload)) h)
+          rw (
+            run-turn,
+            ne-eqb (a .state .mode) 2 awake,
+            le-ltb (length (a .records) - record-size * a .count) record-size room,
+            lt-ltb (length (a .payload) - a .used) (length (step s name f (a .state) .payload)) h,
+          )
 
       -- room for both
       pub turn-wrote : length (step s name f (a .state) .payload) ≤ length (a .payload) - a .used → run-turn s name f a ≡ again (written a (step s name f (a .state)))
       unfolding run-turn
       turn-wrote h =
-          rw (run-turn, ne-eqb (a .state .mode) 2 awake, le-ltb (length (a .records) - record-size * a .count) record-size room,
-          le-ltb (length (a .payload) - a .used) (length (step s name f (a .state) .payload)) h)
+          rw (
+            run-turn,
+            ne-eqb (a .state .mode) 2 awake,
+            le-ltb (length (a .records) - record-size * a .count) record-size room,
+            le-ltb (length (a .payload) - a .used) (length (step s name f (a .state) .payload)) h,
+          )
+
+-- ---- what the code's turn did
+
+module _ (s name f : Bytes) (at : Place) (count used : ℕ) (rs : List ℕ) (ps : Bytes) where
+  abbrev a : Writing
+  a = writing at count used rs ps
+
+  -- what a step's payload measures
+  size-is : (r : Read) (n : ℕ) → Reads s name f (step s name f (at .st)) r → n ≡ length-of name (r .payload) → length (step s name f (at .st) .payload) ≡ n
+  size-is r n h e = sym (e ∙ h .payload .long)
+
+  module _ (awake : at .st .mode ≡ 2 → ⊥) (room : record-size ≤ length rs - record-size * count) (r : Read) (h : Reads s name f (step s name f (at .st)) r)
+      (n : ℕ) (e : n ≡ length-of name (r .payload)) where
+    pub long-ran : length ps - used < n → run-turn s name f (writing at count used rs ps) ≡ done (stopped 2 (writing at count used rs ps))
+    long-ran k = turn-long s name f (writing at count used rs ps) awake room (rw (size-is r n h e) k)
+
+    pub wrote-ran : (rs′ : List ℕ) (ps′ : Bytes) → n ≤ length ps - used → rs′ ≡ put rs (record-size * count) (words (r .item) used)
+        → ps′ ≡ put ps used (bytes-of s name f (r .payload))
+        → Ran s (run-turn s name f (writing at count used rs ps)) count (at .st) (Wrote (record { st = r .next; known = r .known }) (used + n)) rs′ ps′
+    wrote-ran rs′ ps′ k p q =
+        let z = size-is r n h e in
+        let w = turn-wrote s name f (writing at count used rs ps) awake room (rw z k) in (
+          w ∙ rw (p, q, z, h .next, h .item, h .payload .is) refl,
+          subst (λ (st : State). Known-at s st (r .known)) (sym (h .next)) (h .known),
+        )

@@ -10,10 +10,12 @@ use Rattle.definition.specs.Item.{record-size}
 use Rattle.definition.specs.Run.{Outcome, Writing}
 use Rattle.definition.specs.declared.State.{State}
 use Rattle.definition.specs.declared.RunAnswer.{RunAnswer}
+use Rattle.progress.proofs.Moves.{left}
+use Rattle.state.specs.Sound.{Stands}
+use Rattle.soundness.specs.Budget.{budget}
 use Rattle.described.specs.declared.Place.{Place}
 use Rattle.described.specs.declared.Read.{Read}
 use Rattle.described.specs.Described.{bytes-of, length-of, Inside, Known-at}
-use Rattle.described.specs.Standing.{Standing}
 use Rattle.lexer.specs.declared.Went.{Went}
 use Rattle.lexer.specs.declared.Went.the-variants.{Stop, Wrote}
 
@@ -29,6 +31,22 @@ answered stop count st = record { refusal = 0; offset = 0; stop = stop; count = 
 abbrev pub Ran : Bytes → Turn Writing Outcome → ℕ → State → Went → List ℕ → Bytes → Type 0
 Ran s t count st (Stop n) rs ps = t ≡ done (answered n count st, rs, ps)
 Ran s t count st (Wrote next used) rs ps = (t ≡ again (writing next (count + 1) used rs ps)) × Known-at s (next .st) (next .known)
+
+-- what holds of a run between two items: the state is sound, the buffers hold what is written, and what may still come fits
+-- numbers of 32 bits, whatever buffers are lent
+pub record Kept (s : Bytes) (a : Writing) : Type 0 where
+  pub stands : Stands s (a .state)
+  pub begun : record-size * a .count ≤ length (a .records)
+  pub filled : a .used ≤ length (a .payload)
+  pub spent : a .used + budget s (a .state) ≤ 421527552
+  pub few : a .count + left s (a .state) ≤ 4294967295
+
+-- where the code stands between two items of a run that was not refused
+pub record Between (s name f : Bytes) (at : Place) (count used : ℕ) (rs : List ℕ) (ps : Bytes) : Type 0 where
+  pub accepted : class-check f ≡ 0
+  pub named : length name ≤ 4096
+  pub kept : Kept s (writing at count used rs ps)
+  pub cached : Known-at s (at .st) (at .known)
 
 -- an item that was read fits: its record from number `first` on, its payload from byte `used` on
 pub record ItemFits (s name f : Bytes) (r : Read) (first used : ℕ) (rs : List ℕ) (ps : Bytes) : Type 0 where

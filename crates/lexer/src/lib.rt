@@ -17,7 +17,16 @@ pub enum Went {
 }
 
 // Writes an item: its payload from byte `used` on, its record from number `first` on.
-fn write_item(text: &[u8], name: &[u8], classes: &[u8], r: Read, first: usize, used: usize, records: &mut [u32], payload: &mut [u8])
+fn write_item(
+    text: &[u8],
+    name: &[u8],
+    classes: &[u8],
+    r: Read,
+    first: usize,
+    used: usize,
+    records: &mut [u32],
+    payload: &mut [u8],
+)
     requires { ⌜ ItemFits (now text) (now name) (now classes) r first used (now records) (now payload) ⌝ }
     ensures { λ u. ⌜ (now (records .exit) ≡ put (now (records .entry)) first (words (r .item) used)) × (now (payload .exit) ≡ put (now (payload .entry)) used (bytes-of (now (text .entry)) (now (name .entry)) (now (classes .entry)) (r .payload))) ⌝ }
 {
