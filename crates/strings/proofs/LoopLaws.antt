@@ -87,6 +87,7 @@ module _ (s name f : Bytes) (sp : Pos) (st : State) (acc : Bytes) where
       known = rw (h .0) (h .1);
     }
 
+    -- a turn, by what is done
     turn-again : (m : Move) → Safe s sp st m → Turns s name f (states (does s sp st acc m)) (Again p) → GoesOn k m p
     turn-again (Copy e) l h = goes-on-from (advance st e) (Copy e) tt refl refl l h
     turn-again (Skip e) l h =
@@ -107,6 +108,7 @@ pub record Reading (s f : Bytes) (sp : Pos) (from count : ℕ) (first here : Pla
   pub same : string-from s f sp (here .st, acc) ≡ string-lit s f (first .st) sp
   pub held : Held s f from (here .st .offset) count acc
 
+-- before the first turn
 pub reading-starts : {s f : Bytes} {sp : Pos} {at : Place} → Reader s f at → Reading s f sp (at .st .offset) 0 at at
 reading-starts {s} {f} {sp} {at} h = record {
   acc = [];
@@ -127,6 +129,7 @@ module _ {s f : Bytes} {sp : Pos} {from count : ℕ} {first here : Place} (k : R
   turn-is : string-turn s f sp (here .st, k .acc) ≡ does s sp (here .st) (k .acc) m
   turn-is = turn-does s f sp (here .st) (k .acc) ∙ ap (does s sp (here .st) (k .acc)) (sym e)
 
+  -- so the turn may be taken
   pub reading-turns : Turning s count here sp m
   reading-turns = record {
     standing = k .standing;
