@@ -102,7 +102,9 @@ module _ (s : Bytes) (i : ℕ) where
       ∙ ap (λ (j : ℕ). getD s (k + 2) 0 ∷ getD s (k + 2 + 1) 0 ∷ slice j (k + 4) s) e
       ∙ ap (λ (m : Bytes). getD s (k + 2) 0 ∷ getD s (k + 2 + 1) 0 ∷ m) (slice-empty (k + 4) s))
       in
-      rw l (value-four (getD s k 0) (getD s (k + 1) 0) (getD s (k + 2) 0) (getD s (k + 2 + 1) 0) (digit k t .1) (digit (k + 1) u .1) (digit (k + 2) v .1) (digit (k + 2 + 1) w .1))
+      rw l
+      (value-four (getD s k 0) (getD s (k + 1) 0) (getD s (k + 2) 0) (getD s (k + 2 + 1) 0)
+      (digit k t .1) (digit (k + 1) u .1) (digit (k + 2) v .1) (digit (k + 2 + 1) w .1))
 
   -- ---- what stands behind a backslash
 

@@ -51,9 +51,13 @@ on-past Surrogate o g = absurd o
 on-past (Close e) o g = absurd o
 on-past Open o g = absurd o
 
+-- a turn of the definition leads to a place to stand
+abbrev Leads-safe : Bytes → Turn (State × Bytes) Step → Type 0
+Leads-safe s = Leads (λ (b : State × Bytes). Stands s (b .0) × (b .0 .mode ≡ 0)) (λ (t : Step). Stands s (t .next))
+
 module _ (s name f : Bytes) (sp : Pos) (st : State) (acc : Bytes) where
-  -- what leads to a sound state doesn't depend on what was read
-  states-safe : (m : Move) → Leads (λ (b : State × Bytes). Stands s (b .0) × (b .0 .mode ≡ 0)) (λ (t : Step). Stands s (t .next)) (does s sp st acc m) → Safe s sp st m
+  -- whether it does doesn't depend on what was read
+  states-safe : (m : Move) → Leads-safe s (does s sp st acc m) → Safe s sp st m
   states-safe (Copy e) h = h
   states-safe (Skip e) h = h
   states-safe (Line e) h = h
@@ -124,7 +128,8 @@ reading-small k =
     let h = k .held in
     omega (arith, h .counted, h .short, h .within, k .standing .stands .short)
 
-module _ {s f : Bytes} {sp : Pos} {from count : ℕ} {first here : Place} (k : Reading s f sp from count first here) {m : Move} (e : m ≡ string-move s f (here .st .offset)) where
+module _ {s f : Bytes} {sp : Pos} {from count : ℕ} {first here : Place} (k : Reading s f sp from count first here)
+    {m : Move} (e : m ≡ string-move s f (here .st .offset)) where
   -- the turn is what is done with the move
   turn-is : string-turn s f sp (here .st, k .acc) ≡ does s sp (here .st) (k .acc) m
   turn-is = turn-does s f sp (here .st) (k .acc) ∙ ap (does s sp (here .st) (k .acc)) (sym e)
@@ -133,9 +138,9 @@ module _ {s f : Bytes} {sp : Pos} {from count : ℕ} {first here : Place} (k : R
   pub reading-turns : Turning s count here sp m
   reading-turns = record {
     standing = k .standing;
-    safe = states-safe s [] f sp (here .st) (k .acc) m
-        (subst (Leads (λ (b : State × Bytes). Stands s (b .0) × (b .0 .mode ≡ 0)) (λ (t : Step). Stands s (t .next))) turn-is
-        (string-turn-stands s f sp (here .st, k .acc) (k .standing .stands) (k .between)));
+    safe =
+        states-safe s [] f sp (here .st) (k .acc) m
+        (subst (Leads-safe s) turn-is (string-turn-stands s f sp (here .st, k .acc) (k .standing .stands) (k .between)));
     small = omega (arith, reading-small k);
   }
 
