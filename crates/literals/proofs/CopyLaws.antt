@@ -15,6 +15,7 @@ module _ {s : Bytes} {i e n : ℕ} {out : Bytes} (c : Copies s i e out) (q : n �
   pub part-long : n ≡ length (lexeme s i e)
   part-long = q ∙ sym (length-slice i e s (c .within))
 
+  -- none is written yet
   pub part-starts : Copied (lexeme s i e) out 0 out
   part-starts = copied-starts (lexeme s i e) out (omega (arith, part-long, c .room))
 
@@ -24,5 +25,6 @@ module _ {s : Bytes} {i e n : ℕ} {out : Bytes} (c : Copies s i e out) (q : n �
       copied-goes-on w (omega (arith, part-long))
       (sym (getD-drop i (take e s) j 0 ∙ getD-take e s (i + j) 0 (omega arith)))
 
+  -- all are
   pub part-ends : {now : Bytes} {j : ℕ} → Copied (lexeme s i e) out j now → n ≤ j → Wrote (lexeme s i e) out now n
   part-ends w h = record { all = part-long; bytes = copied-ends w (omega (arith, part-long)) }

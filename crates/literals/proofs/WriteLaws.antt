@@ -6,9 +6,11 @@ use mathlib.Core.List.{[], _++_}
 use native.Mathlib.Omega.{arith}
 use lib.ListN.{length, take, drop, length-append, length-drop}
 use Rattle.definition.specs.Basics.{Bytes}
+use Rattle.definition.specs.ClassFile.{class-check}
 use Rattle.lemmas.specs.Over.{over, Wrote}
 use Rattle.lemmas.proofs.Over.{length-over}
-use Rattle.described.specs.Described.{literal}
+use Rattle.described.specs.declared.Payload.the-variants.{Literal}
+use Rattle.described.specs.Described.{literal, Describes}
 use Rattle.strings.specs.declared.Move.{Move}
 use Rattle.strings.specs.declared.Move.the-variants.{Copy, Skip, Line, Char, Surrogate, Close, Open}
 use Rattle.strings.specs.Moves.{string-move}
@@ -30,6 +32,12 @@ pub record Writing (s f : Bytes) (from n : ℕ) (before : Bytes) (i at : ℕ) (n
   pub room : n ≤ length before
   pub is : now ≡ over acc before
 
+-- what a description says of a literal is what its writer asks for
+pub writes-described : {s name f : Bytes} {from n : ℕ} {bytes out : Bytes} → class-check f ≡ 0 → Describes s name f (Literal from n) bytes
+    → n ≤ length out → Writes s f from n out
+writes-described c d h = record { accepted = c; long = d .long ∙ ap length (sym (d .is)); room = h }
+
+-- nothing is written yet
 pub writing-starts : {s f : Bytes} {from n : ℕ} {out : Bytes} → Writes s f from n out → Writing s f from n out from 0 out
 unfolding over
 writing-starts {s} {f} {from} h = record {
@@ -74,6 +82,7 @@ module _ {s f : Bytes} {from n : ℕ} {before : Bytes} {i at : ℕ} {now : Bytes
       on : On m
       on = goes-on m (sym q)
 
+      -- and reads something
       goes : Goes s i m
       goes = subst (Goes s i) (sym q) (move-goes s i f)
 
@@ -81,6 +90,7 @@ module _ {s f : Bytes} {from n : ℕ} {before : Bytes} {i at : ℕ} {now : Bytes
       spells-on : literal-from s f (ends-at i m) (w .acc ++ adds s i m) ≡ literal s f from
       spells-on = sym (literal-on s f i (w .acc) m on (sym q)) ∙ w .spells
 
+      -- so there is room for it
       fits-on : at + length (adds s i m) ≤ n
       fits-on =
           let l : length (literal-from s f (ends-at i m) (w .acc ++ adds s i m)) ≡ n = ap length spells-on ∙ sym (w .long) in
@@ -98,9 +108,11 @@ module _ {s f : Bytes} {from n : ℕ} {before : Bytes} {i at : ℕ} {now : Bytes
           omega (arith, end, p .past, p .within)
 
       module _ {exit : Bytes} {r : ℕ} (p : Wrote (adds s i m) (take (length now - at) (drop at now)) exit r) where
+        -- what was written fits
         pub writing-fits : at + r ≤ n
         writing-fits = omega (arith, p .all, fits-on)
 
+        -- and the literal is followed up to the end of the move
         pub writing-on : {k : ℕ} → k ≡ ends-at i m
             → Writing s f from n before k (at + r) (take at now ++ (exit ++ drop (length now - at) (drop at now)))
         writing-on end = record {

@@ -2,7 +2,7 @@
 use Prim.Native.Nat.{ℕ, _+_, _-_, _*_, _≤_, _<_}
 use mathlib.Core.Path.{_≡_, refl, sym, ap, subst, _∙_}
 use mathlib.Core.Bool.{true, false}
-use mathlib.Core.List.{[], _∷_}
+use mathlib.Core.List.{List, [], _∷_}
 use native.Mathlib.Numerals.{add-one}
 use native.Mathlib.Omega.{arith}
 use lib.Dec.{eqb}
@@ -27,6 +27,10 @@ use Rattle.progress.proofs.Matches.{small-mem, small-hex}
 use Rattle.escapes.specs.Contracts.{escaped}
 use Rattle.escapes.proofs.Behind.{code-of, unescape-slash}
 
+-- the letters that make an escape by themselves
+abbrev letters : List ℕ
+letters = codes "\\\"'bfntrv0"
+
 -- the escape from i up to e stands for a number that has bytes, fewer than the escape
 pub record Shrinks (s : Bytes) (i e : ℕ) : Type 0 where
   pub small : unescape s i ≤ 0x10FFFF
@@ -42,12 +46,14 @@ one-byte c h = by-size (λ (l : Bytes). length l ≤ 1) c (λ _. omega arith) (�
 three-bytes : (c : ℕ) → c < 0x10000 → length (encode c) ≤ 3
 three-bytes c h = by-size (λ (l : Bytes). length l ≤ 3) c (λ _. omega arith) (λ _ _. omega arith) (λ _ _. omega arith) (λ k. absurd (omega arith))
 
--- ---- the value of two hexadecimal digits, and of four
+-- ---- the value of two hexadecimal digits, and of four: each is worth at most 127, its byte being one of ASCII
 
+-- two digits, behind those of the value n
 value-two : (n a b : ℕ) → a < 0x80 → b < 0x80 → value-from 16 n (a ∷ b ∷ []) ≤ 256 * n + 2159
 unfolding value-from
 value-two n a b h k = omega (arith, digit-small a (digit-value a) refl, digit-small b (digit-value b) refl)
 
+-- four digits
 value-four : (a b c d : ℕ) → a < 0x80 → b < 0x80 → c < 0x80 → d < 0x80 → value-from 16 0 (a ∷ b ∷ c ∷ d ∷ []) ≤ 554863
 unfolding value-from
 value-four a b c d h k l m =
@@ -68,6 +74,7 @@ module _ (s : Bytes) (i : ℕ) where
       one k (omega arith)
       ∙ ap (λ (m : Bytes). getD s k 0 ∷ m) (one (k + 1) (omega arith) ∙ ap (λ (j : ℕ). getD s (k + 1) 0 ∷ slice j e s) q)
     where
+      -- one byte
       one : (j : ℕ) → j < e → slice j e s ≡ getD s j 0 ∷ slice (j + 1) e s
       one j b = rw add-one (slice-cons j e s 0 b l)
 
@@ -81,6 +88,7 @@ module _ (s : Bytes) (i : ℕ) where
       in
       rw l (omega (arith, value-two 0 (getD s k 0) (getD s (k + 1) 0) (digit k t .1) (digit (k + 1) u .1)))
 
+  -- four digits from k on
   hex-four : (k : ℕ) → byte-has is-hex s k ≡ true → byte-has is-hex s (k + 1) ≡ true → byte-has is-hex s (k + 2) ≡ true
       → byte-has is-hex s (k + 2 + 1) ≡ true → hex-value s k 4 ≤ 554863
   unfolding hex-value
@@ -94,7 +102,9 @@ module _ (s : Bytes) (i : ℕ) where
       ∙ ap (λ (j : ℕ). getD s (k + 2) 0 ∷ getD s (k + 2 + 1) 0 ∷ slice j (k + 4) s) e
       ∙ ap (λ (m : Bytes). getD s (k + 2) 0 ∷ getD s (k + 2 + 1) 0 ∷ m) (slice-empty (k + 4) s))
       in
-      rw l (value-four (getD s k 0) (getD s (k + 1) 0) (getD s (k + 2) 0) (getD s (k + 2 + 1) 0) (digit k t .1) (digit (k + 1) u .1) (digit (k + 2) v .1) (digit (k + 2 + 1) w .1))
+      rw l
+      (value-four (getD s k 0) (getD s (k + 1) 0) (getD s (k + 2) 0) (getD s (k + 2 + 1) 0)
+      (digit k t .1) (digit (k + 1) u .1) (digit (k + 2) v .1) (digit (k + 2 + 1) w .1))
 
   -- ---- what stands behind a backslash
 
@@ -106,7 +116,7 @@ module _ (s : Bytes) (i : ℕ) where
         unescape-slash s i (getD s i 0) (byte-within s i (b .0)) (eqb-true (getD s i 0) 92 (b .1)) (getD s (i + 1) 0) (byte-within s (i + 1) h)
 
     -- a letter by itself is a character of ASCII
-    letter-small : (x : ℕ) → mem-cp x (codes "\\\"'bfntrv0") ≡ true → code-at s (i + 1) ≡ x → escaped s i x < 0x80
+    letter-small : (x : ℕ) → mem-cp x letters ≡ true → code-at s (i + 1) ≡ x → escaped s i x < 0x80
     unfolding escaped mem-cp
     letter-small x m q =
         by-if P (eqb x (ch "0")) (λ _. omega arith) λ _.
@@ -118,20 +128,22 @@ module _ (s : Bytes) (i : ℕ) where
         by-if P (eqb x (ch "r")) (λ _. omega arith) λ _.
         by-if P (eqb x (ch "u")) (λ t. never (other 117 refl (eqb-true x 117 t))) λ _.
         by-if P (eqb x (ch "x")) (λ t. never (other 120 refl (eqb-true x 120 t))) λ _.
-        rw q (small-mem (codes "\\\"'bfntrv0") refl x m)
+        rw q (small-mem letters refl x m)
       where
+        -- a character of ASCII
         P : ℕ → Type 0
         P n = n < 0x80
 
-        other : (y : ℕ) → mem-cp y (codes "\\\"'bfntrv0") ≡ false → x ≡ y → false ≡ true
-        other y n e = sym n ∙ ap (λ (z : ℕ). mem-cp z (codes "\\\"'bfntrv0")) (sym e) ∙ m
+        -- a letter that is none of them
+        other : (y : ℕ) → mem-cp y letters ≡ false → x ≡ y → false ≡ true
+        other y n e = sym n ∙ ap (λ (z : ℕ). mem-cp z letters) (sym e) ∙ m
 
     -- such a letter
-    letter-shrinks : byte-has (λ c. mem-cp c (codes "\\\"'bfntrv0")) s (i + 1) ≡ true → Shrinks s i (i + 2)
+    letter-shrinks : byte-has (λ c. mem-cp c letters) s (i + 1) ≡ true → Shrinks s i (i + 2)
     letter-shrinks t =
-        let b = byte-passes (λ c. mem-cp c (codes "\\\"'bfntrv0")) s (i + 1) t in
+        let b = byte-passes (λ c. mem-cp c letters) s (i + 1) t in
         let x = getD s (i + 1) 0 in
-        let k : code-at s (i + 1) ≡ x = code-of s (i + 1) (ascii-at s (i + 1) (b .0) (small-mem (codes "\\\"'bfntrv0") refl x (b .1))) in
+        let k : code-at s (i + 1) ≡ x = code-of s (i + 1) (ascii-at s (i + 1) (b .0) (small-mem letters refl x (b .1))) in
         let c : unescape s i < 0x80 = subst (λ (n : ℕ). n < 0x80) (decides (b .0)) (letter-small x (b .1) k) in
         record { small = omega arith; fewer = omega (arith, one-byte (unescape s i) c) }
 
@@ -141,12 +153,14 @@ module _ (s : Bytes) (i : ℕ) where
         let b = byte-passes (λ y. eqb y x) s (i + 1) t in
         sym (decides (b .0)) ∙ ap (escaped s i) (eqb-true (getD s (i + 1) 0) x (b .1)) ∙ e
 
+    -- x and two digits
     two-shrink : byte-is (ch "x") s (i + 1) ≡ true → hex-value s (i + 2) 2 ≤ 2159 → Shrinks s i (i + 4)
     unfolding escaped
     two-shrink t h =
         let q = digits-are (ch "x") (hex-value s (i + 2) 2) t refl in
         record { small = omega (arith, q); fewer = omega (arith, three-bytes (unescape s i) (omega (arith, q))) }
 
+    -- u and four digits
     four-shrink : byte-is (ch "u") s (i + 1) ≡ true → hex-value s (i + 2) 4 ≤ 554863 → Shrinks s i (i + 6)
     unfolding escaped
     four-shrink t h =
@@ -173,5 +187,6 @@ escape-shrinks s i =
     let c = both _ _ (b .1) in
     ends-to (four-shrink s i slash (u .0) (hex-four s i (i + 2) (a .0) (digit-at three (b .0)) (digit-at four (c .0)) (digit-at five (c .1))))) ends-nothing))
   where
+    -- the same offset
     digit-at : {j k : ℕ} → j ≡ k → byte-has is-hex s j ≡ true → byte-has is-hex s k ≡ true
     digit-at e t = subst (λ (n : ℕ). byte-has is-hex s n ≡ true) e t

@@ -25,6 +25,7 @@ module _ (s : Bytes) (i : ℕ) where
   onward-past : {e : ℕ} → Onward s i e → Past s i e
   onward-past o = record { past = o .past; within = o .within }
 
+  -- an escape
   escape-goes : (e : ℕ) → match-escape s i ≡ To e → Goes s i (escape-move s i e)
   unfolding escape-move
   escape-goes e q =
@@ -32,12 +33,14 @@ module _ (s : Bytes) (i : ℕ) where
       by-test (Goes s i) (is-surrogate (unescape s i)) (λ _. tt)
       (λ _. (onward-past (escape-ends s i .at q), record { small = h .small; fewer = h .fewer }))
 
+  -- the quote, the text's end, or a lone byte
   last-goes : Goes s i (last-move s i)
   unfolding last-move
   last-goes =
       by-test (Goes s i) (byte-is (ch "\"") s i) (λ t. onward-past (byte-is-onward s (ch "\"") i (omega arith) t)) λ _.
       by-le (Goes s i) (length s) i (λ _. tt) (λ h. record { past = omega arith; within = omega arith })
 
+  -- neither a run nor a continued line
   stop-goes : Goes s i (stop-move s i)
   unfolding stop-move
   stop-goes =
@@ -48,6 +51,7 @@ module _ (s : Bytes) (i : ℕ) where
   broken : Ends (Onward s i) (broken-line s i)
   broken = ends-only (byte-is (ch "\\") s i) (λ t. behind s (byte-is-onward s (ch "\\") i (omega arith) t .walk) (newline-ends s (i + 1)))
 
+  -- Whatever stands there.
   pub move-goes : (f : Bytes) → Goes s i (string-move s f i)
   unfolding string-move
   move-goes f =

@@ -56,6 +56,7 @@ module _ (s f acc : Bytes) where
   abbrev Growing : Turn (State × Bytes) Step → Type 0
   Growing = Leads (λ (a : State × Bytes). Begins acc (a .1)) (λ (t : Step). Grows acc (t .payload))
 
+  -- what is done with a move
   does-grow : (st : State) (x : Bytes) (m : Move) → Begins acc x → Growing (does s no-pos st x m)
   does-grow st x (Copy e) h = begins-on (lexeme s (st .offset) e) h
   does-grow st x (Skip e) h = h
@@ -65,9 +66,11 @@ module _ (s f acc : Bytes) where
   does-grow st x (Close e) h = right h
   does-grow st x Open h = wrong refl
 
+  -- a turn
   turn-grows : (a : State × Bytes) → Begins acc (a .1) → Growing (string-turn s f no-pos a)
   turn-grows a h = subst Growing (sym (turn-does s f no-pos (a .0) (a .1))) (does-grow (a .0) (a .1) (string-move s f (a .0 .offset)) h)
 
+  -- The literal begins with what is read of it.
   pub literal-grows : (i : ℕ) → Grows acc (literal-from s f i acc)
   unfolding string-from
   literal-grows i =

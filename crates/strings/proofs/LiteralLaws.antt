@@ -54,6 +54,7 @@ module _ (s f : Bytes) where
   abbrev Equal : Step → Step → Type 0
   Equal t u = t .payload ≡ u .payload
 
+  -- what is done with a move
   does-both : (sp sp′ : Pos) (st st′ : State) (acc acc′ : Bytes) (m : Move) → st .offset ≡ st′ .offset → acc ≡ acc′
       → Both Alike Equal (does s sp st acc m) (does s sp′ st′ acc′ m)
   does-both sp sp′ st st′ acc acc′ (Copy e) p q = (refl, ap₂ (λ (x : Bytes) (i : ℕ). x ++ lexeme s i e) q p)
@@ -64,6 +65,7 @@ module _ (s f : Bytes) where
   does-both sp sp′ st st′ acc acc′ (Close e) p q = q
   does-both sp sp′ st st′ acc acc′ Open p q = refl
 
+  -- a turn
   turn-both : (sp sp′ : Pos) (a b : State × Bytes) → Alike a b → Both Alike Equal (string-turn s f sp a) (string-turn s f sp′ b)
   turn-both sp sp′ a b h =
       let u = does-both sp sp′ (a .0) (b .0) (a .1) (b .1) (string-move s f (a .0 .offset)) (h .0) (h .1) in
@@ -113,8 +115,10 @@ module _ (s f : Bytes) where
     pub literal-closed : (e : ℕ) → string-move s f i ≡ Close e → literal-from s f i acc ≡ acc
     literal-closed e q = by-move (Close e) q
 
+    -- as a surrogate does
     pub literal-surrogate : string-move s f i ≡ Surrogate → literal-from s f i acc ≡ []
     literal-surrogate q = by-move Surrogate q
 
+    -- or the text's end
     pub literal-open : string-move s f i ≡ Open → literal-from s f i acc ≡ []
     literal-open q = by-move Open q

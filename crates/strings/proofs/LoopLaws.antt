@@ -51,9 +51,13 @@ on-past Surrogate o g = absurd o
 on-past (Close e) o g = absurd o
 on-past Open o g = absurd o
 
+-- a turn of the definition leads to a place to stand
+abbrev Leads-safe : Bytes → Turn (State × Bytes) Step → Type 0
+Leads-safe s = Leads (λ (b : State × Bytes). Stands s (b .0) × (b .0 .mode ≡ 0)) (λ (t : Step). Stands s (t .next))
+
 module _ (s name f : Bytes) (sp : Pos) (st : State) (acc : Bytes) where
-  -- what leads to a sound state doesn't depend on what was read
-  states-safe : (m : Move) → Leads (λ (b : State × Bytes). Stands s (b .0) × (b .0 .mode ≡ 0)) (λ (t : Step). Stands s (t .next)) (does s sp st acc m) → Safe s sp st m
+  -- whether it does doesn't depend on what was read
+  states-safe : (m : Move) → Leads-safe s (does s sp st acc m) → Safe s sp st m
   states-safe (Copy e) h = h
   states-safe (Skip e) h = h
   states-safe (Line e) h = h
@@ -87,6 +91,7 @@ module _ (s name f : Bytes) (sp : Pos) (st : State) (acc : Bytes) where
       known = rw (h .0) (h .1);
     }
 
+    -- a turn, by what is done
     turn-again : (m : Move) → Safe s sp st m → Turns s name f (states (does s sp st acc m)) (Again p) → GoesOn k m p
     turn-again (Copy e) l h = goes-on-from (advance st e) (Copy e) tt refl refl l h
     turn-again (Skip e) l h =
@@ -107,6 +112,7 @@ pub record Reading (s f : Bytes) (sp : Pos) (from count : ℕ) (first here : Pla
   pub same : string-from s f sp (here .st, acc) ≡ string-lit s f (first .st) sp
   pub held : Held s f from (here .st .offset) count acc
 
+-- before the first turn
 pub reading-starts : {s f : Bytes} {sp : Pos} {at : Place} → Reader s f at → Reading s f sp (at .st .offset) 0 at at
 reading-starts {s} {f} {sp} {at} h = record {
   acc = [];
@@ -122,17 +128,19 @@ reading-small k =
     let h = k .held in
     omega (arith, h .counted, h .short, h .within, k .standing .stands .short)
 
-module _ {s f : Bytes} {sp : Pos} {from count : ℕ} {first here : Place} (k : Reading s f sp from count first here) {m : Move} (e : m ≡ string-move s f (here .st .offset)) where
+module _ {s f : Bytes} {sp : Pos} {from count : ℕ} {first here : Place} (k : Reading s f sp from count first here)
+    {m : Move} (e : m ≡ string-move s f (here .st .offset)) where
   -- the turn is what is done with the move
   turn-is : string-turn s f sp (here .st, k .acc) ≡ does s sp (here .st) (k .acc) m
   turn-is = turn-does s f sp (here .st) (k .acc) ∙ ap (does s sp (here .st) (k .acc)) (sym e)
 
+  -- so the turn may be taken
   pub reading-turns : Turning s count here sp m
   reading-turns = record {
     standing = k .standing;
-    safe = states-safe s [] f sp (here .st) (k .acc) m
-        (subst (Leads (λ (b : State × Bytes). Stands s (b .0) × (b .0 .mode ≡ 0)) (λ (t : Step). Stands s (t .next))) turn-is
-        (string-turn-stands s f sp (here .st, k .acc) (k .standing .stands) (k .between)));
+    safe =
+        states-safe s [] f sp (here .st) (k .acc) m
+        (subst (Leads-safe s) turn-is (string-turn-stands s f sp (here .st, k .acc) (k .standing .stands) (k .between)));
     small = omega (arith, reading-small k);
   }
 

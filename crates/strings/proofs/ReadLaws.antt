@@ -35,6 +35,7 @@ module _ {from count : ℕ} where
   pub part-sized : {to n : ℕ} → count < 4294967296 → n ≡ to - from → count ≡ n → (name : Bytes) → Sized name (Part from to)
   part-sized h e q name = record { listed = tt; small = omega arith }
 
+  -- the same of the other
   pub literal-sized : count < 4294967296 → (name : Bytes) → Sized name (Literal from count)
   literal-sized h name = record { listed = tt; small = h }
 
@@ -50,6 +51,7 @@ module _ {from count : ℕ} where
 
 -- ---- the closing quote
 
+-- The token that is built there is the definition's.
 pub close-reads : {s name : Bytes} {count e : ℕ} {at : Place} {sp : Pos} {p : Payload} {r : Read} (end : Located) (next : State)
     → Closing s count at e → end ≡ located s (at .st) e → next ≡ advance (at .st) e
     → ((s f bytes : Bytes) → Describes s name f p bytes → Known-at s next (end .known) → Reads s name f (tok (kind "STRING") bytes sp (end .pos) NoExtra next) r)
@@ -81,6 +83,7 @@ module _ {s : Bytes} {at : Place} (h : Standing s (at .st) (at .known)) {e : ℕ
   pub on-known : p ≡ moved at e → (p .st ≡ advance (at .st) e) × Known-at s (advance (at .st) e) (p .known)
   on-known c = rw c (refl, known-kept (at .st) (advance (at .st) e) refl refl (h .cached))
 
+  -- where a line begins
   pub line-known : p ≡ next-line at e → (p .st ≡ new-line (advance (at .st) e)) × Known-at s (new-line (advance (at .st) e)) (p .known)
   line-known c = rw c (refl, known-line s (at .st) e)
 

@@ -22,6 +22,7 @@ by-found : {X : Type 0} (m : Match) → ((e : ℕ) → m ≡ To e → X) → (m 
 by-found (To e) on off = on e refl
 by-found Nothing on off = off refl
 
+-- The turn, case by case.
 pub turn-does : (s f : Bytes) (sp : Pos) (st : State) (acc : Bytes) → string-turn s f sp (st, acc) ≡ does s sp st acc (string-move s f (st .offset))
 unfolding string-move stop-move escape-move last-move escape-turn
 turn-does s f sp st acc =

@@ -35,7 +35,9 @@ enum-known-r c = search needs
 returns : tie.Need-returns Inv-loop μ-loop
 returns c =
     let d = c .before .before .before in
-    reading-ends (d .before .before .before .before .loop .inv) (d .before .string-move .ensures) _ _ (rw (c .before .r .given .1) at (d .turn .ensures _ _ (sym (d .before .string-move .ensures)) (d .before .before .before .before .loop .inv .held)))
+    let inv = d .before .before .before .before .loop .inv in
+    let e = d .before .string-move .ensures in
+    reading-ends inv e _ _ (rw (c .before .r .given .1) at (d .turn .ensures _ _ (sym e) (inv .held)))
 
 enum-known-next : tie.Need-enum-known-next Inv-loop μ-loop
 enum-known-next c = search needs

@@ -79,19 +79,15 @@ returns-4 c =
     λ f acc q h. move-turns _ _ _ _ _ _ _ (c .before .before .m4 .given .1) f acc (on-known (g .pre .standing) (c .moved2 .ensures))
 
 returns-5 : tie.Need-returns-5
-returns-5 c =
-    let g = c .before .before .before .before .before .before .before in
-    λ f acc q h. move-turns _ _ _ _ _ _ _ (c .before .enum-told .given .1) f acc (c .error-here .ensures f)
+returns-5 c = λ f acc q h. move-turns _ _ _ _ _ _ _ (c .before .enum-told .given .1) f acc (c .error-here .ensures f)
 
 returns-6 : tie.Need-returns-6
 returns-6 c =
-    let g = c .before .before .before .before .before .before .before .before in
-    λ f acc q h. move-turns _ _ _ _ _ _ _ (c .before .before .m5 .given .1) f acc (c .close .ensures f acc h (sym (h .spells) ∙ literal-closed _ _ _ _ _ (q ∙ c .before .before .m5 .given .1)))
+    let e = c .before .before .m5 .given .1 in
+    λ f acc q h. move-turns _ _ _ _ _ _ _ e f acc (c .close .ensures f acc h (sym (h .spells) ∙ literal-closed _ _ _ _ _ (q ∙ e)))
 
 returns-7 : tie.Need-returns-7
-returns-7 c =
-    let g = c .before .before .before .before .before .before .before in
-    λ f acc q h. move-turns _ _ _ _ _ _ _ (c .before .enum-told2 .given .1) f acc (c .error-here2 .ensures f)
+returns-7 c = λ f acc q h. move-turns _ _ _ _ _ _ _ (c .before .enum-told2 .given .1) f acc (c .error-here2 .ensures f)
 
 pub turn-spec : {M : Type 1} → statement M
 turn-spec =
