@@ -1,0 +1,30 @@
+-- The whole run: refused, or its items. Rests on nothing but the definition, and on demand 3's law for a run that isn't refused.
+use Prim.Native.Nat.{ℕ}
+use mathlib.Core.Path.{_≡_, refl, sym, ap, _∙_}
+use mathlib.Core.List.{List}
+use borrow.Author.Tests.{eq-eqb, ne-eqb}
+use Rattle.definition.specs.Basics.{Bytes}
+use Rattle.definition.specs.Run.{Outcome, refusal, refused, run-items, run}
+use Rattle.definition.specs.Reading.{EveryReading}
+use Rattle.definition.specs.declared.State.{State}
+use Rattle.definition.specs.declared.RunAnswer.{RunAnswer}
+use Rattle.soundness.proofs.Refusals.{Accepted, run-accepted}
+use Rattle.soundness.proofs.Demand3.{every-reading}
+
+module _ (s name f : Bytes) (st : State) {n o : ℕ} (e : _≡_ {A = ℕ × ℕ} (n, o) (refusal s name f st)) where
+  -- what is refused alters nothing
+  pub run-refuses : (rs : List ℕ) (ps : Bytes) → (n ≡ 0 → ⊥) → _≡_ {A = Outcome} (refused (n, o) st, rs, ps) (run s name f st rs ps)
+  unfolding run
+  run-refuses rs ps h = rw (run, ← e, ne-eqb n 0 h) (ap (λ (p : ℕ × ℕ). (refused p st, rs, ps)) e)
+
+  -- what isn't is a run of items
+  pub run-runs : (rs : List ℕ) (ps : Bytes) (x : Outcome) → n ≡ 0 → x ≡ run-items s name f st rs ps → x ≡ run s name f st rs ps
+  unfolding run
+  run-runs rs ps x h q = rw (run, ← e, eq-eqb n 0 h) q
+
+  pub runs-accepted : n ≡ 0 → Accepted s name f st
+  runs-accepted h = run-accepted s name f st (ap (λ (p : ℕ × ℕ). p .0) (sym e) ∙ h)
+
+  -- and demand 3 holds of it
+  pub runs-right : n ≡ 0 → EveryReading s name f st
+  runs-right h = every-reading s name f st (ap (λ (p : ℕ × ℕ). p .0) (sym e) ∙ h)

@@ -1,0 +1,34 @@
+-- A refusal alters nothing; what isn't refused is a run of items, at every reading position of which demand 3 holds.
+use Rattle.lexer.proofs.WholeLaws.{run-refuses, run-runs, runs-accepted, runs-right}
+use borrow.Author.Needs.{needs}
+use Rattle.lexer.proofs.run.Statement.{statement}
+use Rattle.lexer.proofs.run.Tie as tie
+
+refusal-requires : tie.Need-refusal-requires
+refusal-requires c κs = search needs
+
+returns : tie.Need-returns
+returns c =
+    let d = c .before .before in
+    (run-refuses _ _ _ _ (d .refusal .ensures) _ _ (c .if1 .taken), λ h. absurd (c .if1 .taken h))
+
+run-items-requires : tie.Need-run-items-requires
+run-items-requires c κs = runs-accepted _ _ _ _ (c .before .before .before .before .refusal .ensures) (c .before .before .if1 .left)
+
+same-length : tie.Need-same-length
+same-length c = search needs
+
+same-length-2 : tie.Need-same-length-2
+same-length-2 c = search needs
+
+returns-2 : tie.Need-returns-2
+returns-2 c =
+    let d = c .before .before .before .before in
+    let r = d .before .before .before .before .before .refusal .ensures in
+    let z = d .before .before .before .if1 .left in
+    (run-runs _ _ _ _ r _ _ _ z (d .run-items .ensures), λ _. runs-right _ _ _ _ r z)
+
+pub run-spec : {M : Type 1} → statement M
+run-spec =
+    tie.close
+    (tie.spec refusal-requires returns run-items-requires same-length same-length-2 returns-2)

@@ -1,0 +1,80 @@
+-- The invariant is `Going`: what is still to come gives what the whole gives. The measure is what is left to read.
+use mathlib.Core.Path.{_≡_, refl, _∙_}
+use lib.ListN.{length}
+use Rattle.progress.proofs.Moves.{left}
+use Rattle.lexer.proofs.RunLaws.{Going, going-starts, going-stops, going-on}
+use native.Mathlib.Omega.{arith}
+use borrow.Author.Needs.{needs}
+use Rattle.lexer.proofs.run_items.Statement.{statement}
+use Rattle.lexer.proofs.run_items.Tie as tie
+
+abbrev Inv-loop : tie.InvT-loop
+Inv-loop text name classes records₀ payload₀ ops symbols at₀ count₀ used₀ records payload at count used =
+    Going text name classes (at₀ .st) records₀ payload₀ at count used records payload × (length records ≡ length records₀) × (length payload ≡ length payload₀)
+
+abbrev μ-loop : tie.MeasureT-loop
+μ-loop text name classes records₀ payload₀ ops symbols at₀ count₀ used₀ records payload at count used = left text (at .st)
+
+op-char-table-requires : tie.Need-op-char-table-requires Inv-loop μ-loop
+op-char-table-requires c κs = search needs
+
+symbolchar-table-requires : tie.Need-symbolchar-table-requires Inv-loop μ-loop
+symbolchar-table-requires c κs = search needs
+
+loop-holds : tie.Need-loop-holds Inv-loop μ-loop
+loop-holds c = (going-starts _ _ _ _ _ _ (c .before .before .before .before .before .before .before .pre), refl, refl)
+
+turn-requires : tie.Need-turn-requires Inv-loop μ-loop
+turn-requires c κs =
+    let l = c .before .before .before .before in
+    (l .loop .inv .0 .between, (l .before .before .op-char-table .ensures, l .before .symbolchar-table .ensures))
+
+enum-known-stop : tie.Need-enum-known-stop Inv-loop μ-loop
+enum-known-stop c = search needs
+
+cast-t25 : tie.Need-cast-t25 Inv-loop μ-loop
+cast-t25 c = omega (arith, c .before .before .before .before .before .before .before .before .before .before .before .before .before .loop .inv .0 .between .kept .few)
+
+same-length : tie.Need-same-length Inv-loop μ-loop
+same-length c = c .before .before .before .before .before .before .before .before .turn .kept .1 .1 .1 .1 .1 .1 .1 .1 .0 ∙ c .before .before .before .before .before .before .before .before .before .before .before .before .before .loop .inv .1
+
+same-length-2 : tie.Need-same-length-2 Inv-loop μ-loop
+same-length-2 c = c .before .before .before .before .before .before .before .before .turn .kept .1 .1 .1 .1 .1 .1 .1 .1 .1 .0 ∙ c .before .before .before .before .before .before .before .before .before .before .before .before .before .loop .inv .2
+
+returns : tie.Need-returns Inv-loop μ-loop
+returns c = going-stops (c .before .before .before .before .before .before .before .before .before .before .before .before .before .loop .inv .0) _ _ _ (rw (c .before .before .stop .given .1) at (c .before .before .before .before .before .before .before .before .turn .ensures))
+
+enum-known-next : tie.Need-enum-known-next Inv-loop μ-loop
+enum-known-next c = search needs
+
+add-count : tie.Need-add-count Inv-loop μ-loop
+add-count c = omega (arith, c .before .before .before .before .before .before .before .before .before .before .before .before .loop .inv .0 .between .kept .few)
+
+loop-less : tie.Need-loop-less Inv-loop μ-loop
+loop-less c = going-on (c .before .before .before .before .before .before .before .before .before .before .before .before .loop .inv .0) _ _ _ _ (rw (c .before .next .given .1) at (c .before .before .before .before .before .before .before .turn .ensures)) .1
+
+loop-again : tie.Need-loop-again Inv-loop μ-loop
+loop-again c =
+    let l = c .before .before .before .before .before .before .before .before .before .before .before .before in
+    let t = c .before .before .before .before .before .before .before in
+    (going-on (l .loop .inv .0) _ _ _ _ (rw (c .before .next .given .1) at (t .turn .ensures)) .0, t .turn .kept .1 .1 .1 .1 .1 .1 .1 .1 .0 ∙ l .loop .inv .1, t .turn .kept .1 .1 .1 .1 .1 .1 .1 .1 .1 .0 ∙ l .loop .inv .2)
+
+pub run-items-spec : {M : Type 1} → statement M
+run-items-spec =
+    tie.close
+    (tie.spec
+    Inv-loop
+    μ-loop
+    op-char-table-requires
+    symbolchar-table-requires
+    loop-holds
+    turn-requires
+    enum-known-stop
+    cast-t25
+    same-length
+    same-length-2
+    returns
+    enum-known-next
+    add-count
+    loop-less
+    loop-again)
