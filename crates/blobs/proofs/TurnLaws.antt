@@ -17,7 +17,7 @@ use Rattle.definition.specs.Blob as source
 use Rattle.definition.specs.declared.State.{State}
 use Rattle.definition.specs.declared.Match.{Match}
 use Rattle.definition.specs.declared.Match.the-variants.{To, Nothing}
-use Rattle.lemmas.proofs.Cases.{by-outcome}
+use Rattle.lemmas.proofs.Cases.{by-found, by-outcome}
 use Rattle.lemmas.proofs.Loops.{says, Leads, Any, leads-map, leads-both}
 use Rattle.state.specs.Sound.{Stands}
 use Rattle.progress.proofs.Walks.{rest}
@@ -38,11 +38,6 @@ use Rattle.blobs.specs.declared.Move.{Move}
 use Rattle.blobs.specs.declared.Move.the-variants.{Close, Open, Line, On}
 use Rattle.blobs.specs.Moves.{contents-move, inside-move, blob-move, lang-move, move-at}
 use Rattle.blobs.specs.Contents.{header-of, contents, contents-turn, blob-step, does, InBlob}
-
--- what a match found, or that it found nothing
-by-found : {X : Type 0} (m : Match) → ((e : ℕ) → m ≡ To e → X) → (m ≡ Nothing → X) → X
-by-found (To e) on off = on e refl
-by-found Nothing on off = off refl
 
 module _ (s : Bytes) (from : ℕ) (h : source.Header) (st : State) where
   blob-does : source.blob-turn s from h st ≡ does s false from h st (blob-move s (st .offset))

@@ -62,6 +62,11 @@ module _ {X : Type 0} (P : X → Type 0) where
   by-match (To e) f g = f e refl
   by-match Nothing f g = g refl
 
+-- what a matcher found, or that it found nothing
+pub by-found : {X : Type 0} (m : Match) → ((e : ℕ) → m ≡ To e → X) → (m ≡ Nothing → X) → X
+by-found (To e) on off = on e refl
+by-found Nothing on off = off refl
+
 -- both tests of a conjunction pass
 pub both : (a b : Bool) → a && b ≡ true → (a ≡ true) × (b ≡ true)
 both true b e = (refl, e)

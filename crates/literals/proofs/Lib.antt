@@ -1,4 +1,3 @@
 pub mod CopyLaws
 pub mod PutLaws
-pub mod Tails
 pub mod WriteLaws

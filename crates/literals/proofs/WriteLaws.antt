@@ -20,7 +20,7 @@ use Rattle.strings.proofs.LiteralLaws.{literal-starts, literal-on, literal-clos
 use Rattle.strings.proofs.Growth.{literal-grows, grows-longer, grows-ends}
 use Rattle.strings.proofs.LoopLaws.{on-past}
 use Rattle.literals.specs.Contracts.{Puts, Writes}
-use Rattle.literals.proofs.Tails.{tail-lent, tail-back}
+use Rattle.lemmas.proofs.Tails.{tail-lent, behind}
 
 -- acc, which is what the literal holds before byte i, is written, `at` bytes of n
 pub record Writing (s f : Bytes) (from n : ℕ) (before : Bytes) (i at : ℕ) (now : Bytes) : Type 0 where
@@ -122,5 +122,5 @@ module _ {s f : Bytes} {from n : ℕ} {before : Bytes} {i at : ℕ} {now : Bytes
           fits = writing-fits;
           long = w .long;
           room = w .room;
-          is = tail-back (w .acc) (adds s i m) before now exit at (w .counted) (w .is) (p .bytes);
+          is = behind before now exit (w .acc) (adds s i m) at (w .is) (w .counted) (p .bytes);
         }

@@ -5,22 +5,13 @@ use mathlib.Core.List.{List, [], _∷_, _++_}
 use native.Mathlib.Nat.{le-refl}
 use native.Mathlib.Omega.{arith}
 use lib.ListN.{length, set, length-set}
-use lib.Seq.{slice, length-slice, take-all}
+use lib.Seq.{slice, take-all}
 use borrow.Rule.Slice.PartMut.{midOf, putMid}
 use Rattle.definition.specs.Basics.{Bytes}
 use Rattle.definition.specs.Run.{put}
 use Rattle.lemmas.specs.Over.{over, Wrote}
 use Rattle.lemmas.proofs.Copies.{write-on}
-use Rattle.lemmas.proofs.Tails.{tail-back, write-more, length-put}
-
--- a lent tail that was written over
-pub lent : (l tail vs : List ℕ) (at : ℕ) → tail ≡ over vs (midOf at (length l - at) l) → putMid at (length l - at) l tail ≡ put l at vs
-lent l tail vs at e = rw e (tail-back l at vs)
-
--- the tail behind what was written before
-pub behind : (l mid tail a b : List ℕ) (at : ℕ) → mid ≡ over a l → at ≡ length a → length a ≤ length l → tail ≡ over b (midOf at (length mid - at) mid)
-    → putMid at (length mid - at) mid tail ≡ over (a ++ b) l
-behind l mid tail a b at m n h e = lent mid tail b at e ∙ rw (m, n) (write-more a b l h)
+use Rattle.lemmas.proofs.Tails.{lent, length-put}
 
 -- an element in front of a tail that was written
 front : (l vs : List ℕ) (x : ℕ) → 1 ≤ length l → set (put l 1 vs) 0 x ≡ over (x ∷ vs) l
@@ -41,10 +32,6 @@ on-both-sides l tail vs x y n q h e =
     ap (λ (m : List ℕ). set m (1 + n) y) (in-front l tail vs x (omega arith) e)
     ∙ ap (λ (i : ℕ). set (over (x ∷ vs) l) i y) k
     ∙ write-on (x ∷ vs) l y (omega arith)
-
--- a part as long as its offsets say fits where that many bytes do
-pub part-fits : (s : Bytes) (from to n : ℕ) → to ≤ length s → to - from ≤ n → length (slice from to s) ≤ n
-part-fits s from to n h r = omega (arith, length-slice from to s h)
 
 -- all of some bytes
 pub whole : (s l : Bytes) → over (slice 0 (length s) s) l ≡ over s l

@@ -19,14 +19,6 @@ use Rattle.runs.specs.Items.{Told, without-6, told}
 use Rattle.runs.specs.Written.{records-of, payloads-of}
 use Rattle.runs.specs.Split.{payload-size, item-in, items-in}
 
--- A buffer that is written over is written further.
-pub put-over : (vs ws l : List ℕ) → put (over vs l) (length vs) ws ≡ over (vs ++ ws) l
-unfolding put over
-put-over vs ws l =
-    ap₂ (λ (x y : List ℕ). x ++ (ws ++ y)) (take-append-seam vs (drop (length vs) l))
-    (drop-append-add vs (drop (length vs) l) (length ws) ∙ drop-drop (length ws) (length vs) l ∙ ap (λ (n : ℕ). drop n l) (sym (length-append vs ws)))
-    ∙ sym (append-assoc vs ws (drop (length (vs ++ ws)) l))
-
 -- ---- sizes
 
 -- a record is 16 numbers

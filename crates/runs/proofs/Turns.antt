@@ -24,7 +24,8 @@ use Rattle.soundness.proofs.Steps.{step-stands}
 use Rattle.soundness.proofs.Payloads.{payload-bound, budget-small}
 use Rattle.runs.specs.Written.{records-of, payloads-of, Filled, Stops, Done}
 use Rattle.runs.proofs.Items.{step-left, steps-snoc}
-use Rattle.runs.proofs.Buffers.{put-over, records-size, records-snoc, payloads-snoc}
+use Rattle.lemmas.proofs.Tails.{write-more}
+use Rattle.runs.proofs.Buffers.{records-size, records-snoc, payloads-snoc}
 
 module _ (s name f : Bytes) (rs : List ℕ) (ps : Bytes) (n used : ℕ) (b : State) where
   -- ---- the three reasons to stop
@@ -130,7 +131,7 @@ module _ (s name f : Bytes) (st : State) (rs : List ℕ) (ps : Bytes) where
           let u : a .used ≡ 0 + length (payloads-of (g .ts)) = omega (arith, g .used) in
           ap (λ (l : List ℕ). put l (record-size * a .count) (words (t .item) (a .used))) (g .filled .records)
           ∙ ap₂ (λ (i k : ℕ). put (over vs rs) i (words (t .item) k)) at u
-          ∙ put-over vs (words (t .item) (0 + length (payloads-of (g .ts)))) rs
+          ∙ write-more vs (words (t .item) (0 + length (payloads-of (g .ts)))) rs
           ∙ ap (λ (l : List ℕ). over l rs) (sym (records-snoc 0 (g .ts) t))
 
       -- the payload's
@@ -138,7 +139,7 @@ module _ (s name f : Bytes) (st : State) (rs : List ℕ) (ps : Bytes) where
       payload-written =
           let vs = payloads-of (g .ts) in
           ap₂ (λ (l : Bytes) (i : ℕ). put l i (t .payload)) (g .filled .payload) (g .used)
-          ∙ put-over vs (t .payload) ps
+          ∙ write-more vs (t .payload) ps
           ∙ ap (λ (l : Bytes). over l ps) (sym (payloads-snoc (g .ts) t))
 
       -- it goes on where both have room

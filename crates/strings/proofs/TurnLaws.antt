@@ -13,14 +13,9 @@ use Rattle.definition.specs.declared.Pos.{Pos}
 use Rattle.definition.specs.declared.State.{State}
 use Rattle.definition.specs.declared.Match.{Match}
 use Rattle.definition.specs.declared.Match.the-variants.{To, Nothing}
-use Rattle.lemmas.proofs.Cases.{by-outcome}
+use Rattle.lemmas.proofs.Cases.{by-found, by-outcome}
 use Rattle.strings.specs.Moves.{escape-move, last-move, stop-move, broken-line, string-move}
 use Rattle.strings.specs.Literal.{does}
-
--- what a match found, or that it found nothing
-by-found : {X : Type 0} (m : Match) → ((e : ℕ) → m ≡ To e → X) → (m ≡ Nothing → X) → X
-by-found (To e) on off = on e refl
-by-found Nothing on off = off refl
 
 -- The turn, case by case.
 pub turn-does : (s f : Bytes) (sp : Pos) (st : State) (acc : Bytes) → string-turn s f sp (st, acc) ≡ does s sp st acc (string-move s f (st .offset))

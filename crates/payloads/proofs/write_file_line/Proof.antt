@@ -1,8 +1,7 @@
 -- The mark stands behind the name.
-use Prim.Native.Nat.{_≤_}
 use mathlib.Core.Path.{refl, _∙_}
-use lib.ListN.{length}
-use Rattle.payloads.proofs.Parts.{behind, whole}
+use Rattle.lemmas.proofs.Tails.{behind}
+use Rattle.payloads.proofs.Parts.{whole}
 use native.Mathlib.Omega.{arith}
 use borrow.Author.Needs.{needs}
 use Rattle.payloads.proofs.write_file_line.Statement.{statement}
@@ -30,9 +29,8 @@ returns : tie.Need-returns
 returns c =
     let d = c .before .before in
     let g = d .before .before .before .before .before .before .before .before in
-    let room : length (g .args .name .now) ≤ length (g .args .out .now) = omega (arith, g .pre) in
     behind (g .args .out .now) _ _ (g .args .name .now) _ _
-    (d .before .before .before .before .copy-part .ensures .bytes ∙ whole (g .args .name .now) (g .args .out .now)) refl room (d .write-mark .ensures)
+    (d .before .before .before .before .copy-part .ensures .bytes ∙ whole (g .args .name .now) (g .args .out .now)) refl (d .write-mark .ensures)
 
 pub write-file-line-spec : {M : Type 1} → statement M
 write-file-line-spec =

@@ -1,9 +1,7 @@
 -- The second part stands behind the first.
-use Prim.Native.Nat.{_-_, _≤_}
 use mathlib.Core.Path.{sym, _∙_}
-use lib.ListN.{length}
 use lib.Seq.{length-slice}
-use Rattle.payloads.proofs.Parts.{behind, part-fits}
+use Rattle.lemmas.proofs.Tails.{behind}
 use native.Mathlib.Omega.{arith}
 use borrow.Author.Needs.{needs}
 use Rattle.payloads.proofs.write_parts.Statement.{statement}
@@ -37,8 +35,7 @@ returns c =
     let g = b .before .before in
     let a = g .before .before .before in
     let p = a .pre in
-    let room : a .args .to - a .args .from ≤ length (a .args .out .now) = omega (arith, p .1) in
-    behind _ _ _ _ _ _ (b .copy-part .ensures .bytes) (g .span .ensures ∙ sym (length-slice _ _ _ (p .0 .0))) (part-fits _ _ _ _ (p .0 .0) room)
+    behind _ _ _ _ _ _ (b .copy-part .ensures .bytes) (g .span .ensures ∙ sym (length-slice _ _ _ (p .0 .0)))
     (d .copy-part2 .ensures .bytes)
 
 pub write-parts-spec : {M : Type 1} → statement M
