@@ -1,0 +1,114 @@
+-- What is read is what the definition's steps give: a piece of a comment, and a line's comment. Rests on the laws of trimming and of
+-- columns.
+use Prim.Native.Nat.{ℕ, _+_, _-_, _≤_}
+use mathlib.Core.Path.{_≡_, refl, sym, ap, _∙_}
+use mathlib.Core.Bool.{Bool, true, not}
+use mathlib.Core.List.{_++_}
+use native.Mathlib.Omega.{arith}
+use lib.ListN.{length, take, drop, length-take}
+use lib.Seq.{slice, length-slice, take-take}
+use Rattle.definition.specs.Basics.{Bytes}
+use Rattle.definition.specs.Text.{lexeme}
+use Rattle.definition.specs.Chars.{is-newline-char}
+use Rattle.definition.specs.Position.{one-each}
+use Rattle.definition.specs.Trim.{split-lines, trim-width, maybe-trim-lines}
+use Rattle.definition.specs.State.{advance, one-more-comment, close-comment}
+use Rattle.definition.specs.Comment.{run-end, terminate, line-comment}
+use Rattle.definition.specs.declared.State.{State}
+use Rattle.definition.specs.declared.Extra.the-variants.{Comment}
+use Rattle.lemmas.proofs.Lists.{slice-then-drop}
+use Rattle.progress.proofs.Walks.{walk-within, walk-forward, star-walks}
+use Rattle.soundness.proofs.Moving.{stands-within}
+use Rattle.positions.specs.Columns.{Asked, located}
+use Rattle.positions.specs.declared.Cache.{Cache}
+use Rattle.positions.specs.declared.Located.{Located}
+use Rattle.positions.proofs.Counting.{known-again}
+use Rattle.described.specs.Described.{trimmed}
+use Rattle.described.specs.declared.Payload.the-variants.{Part, Piece}
+use Rattle.trim.specs.Trimming.{piece}
+use Rattle.trim.proofs.Pieces.{piece-length}
+use Rattle.trim.proofs.Trimming.{trimming-is, trimmed-shorter}
+use Rattle.comments.specs.Contracts.{Ending, Behind, ReadsAny}
+use Rattle.comments.proofs.Places.{known-same, known-close, asked}
+
+module _ {s : Bytes} {to : ℕ} {st : State} {known : Cache} (from : ℕ) (h : Ending s to st known) where
+  -- A trimmed piece is short.
+  pub piece-short : (width : ℕ) {n : ℕ} → n ≡ length (trimmed width (piece s from to)) → n ≤ 1048578
+  piece-short width e =
+      omega (arith, trimmed-shorter width (piece s from to), piece-length from to s (h .within), h .within, h .standing .stands .short)
+
+  -- What is made of a piece's width, length and end position is what `terminate` gives.
+  pub piece-reads : {width n : ℕ} {closed : Bool} {end : Located} {next : State}
+      → width ≡ trim-width (st .comment .col) (split-lines (piece s from to))
+      → n ≡ length (trimmed width (piece s from to))
+      → end ≡ located s st (st .offset)
+      → next ≡ close-comment st
+      → ReadsAny s (terminate s from to closed st) (record {
+        item = record { kind = 0; sp = st .comment; ep = end .pos; length = n; comments = next .comments; extra = Comment closed };
+        payload = Piece from to width n;
+        next = next;
+        known = end .known;
+      })
+  piece-reads {width} {n} {closed} {end} {next} p q r t name f =
+      let bytes : trimmed width (piece s from to) ≡ maybe-trim-lines (st .comment .col) (piece s from to) =
+      ap (λ (w : ℕ). trimmed w (piece s from to)) p ∙ sym (trimming-is (st .comment .col) (piece s from to)) in
+      let size : n ≡ length (maybe-trim-lines (st .comment .col) (piece s from to)) = q ∙ ap length bytes in
+      record {
+        item = rw (size, r, t) refl;
+        payload = record { is = bytes; long = size; inside = h .within };
+        next = t;
+        known = rw r (known-close (known-again _ s st (st .offset) (h .standing .stands .sound .order)));
+      }
+
+-- ---- lines
+
+-- Two parts of a text in a row are one.
+slice-slice : (i j k : ℕ) (s : Bytes) → i ≤ j → j ≤ k → k ≤ length s → slice i j s ++ slice j k s ≡ slice i k s
+slice-slice i j k s p q r =
+    let n : j ≤ length (take k s) = omega (arith, length-take k s) in
+    ap (λ (l : Bytes). drop i l ++ slice j k s) (sym (take-take j k s q)) ∙ slice-then-drop i j (take k s) p n
+
+-- where a line's comment may end: behind its start, within the text
+pub record LineEnd (s : Bytes) (st : State) (to : ℕ) : Type 0 where
+  pub on : st .offset ≤ to
+  pub within : to ≤ length s
+  pub fits : to ≤ 1048576
+
+module _ {s : Bytes} {from to : ℕ} {st : State} {known : Cache} (h : Behind s from st known) (e : to ≡ run-end is-newline-char s (st .offset)) where
+  -- A line's comment ends there.
+  pub line-ends : LineEnd s st to
+  line-ends =
+      let w = star-walks (λ c. not (is-newline-char c)) s (st .offset) in
+      let l : to ≤ length s = omega (arith, walk-within w (stands-within (h .standing .stands))) in
+      record { on = omega (arith, walk-forward w); within = l; fits = omega (arith, h .standing .stands .short) }
+
+  -- Its end's column may be asked for, from its start's.
+  pub line-asked : {start : Located} → start ≡ located s st (st .offset) → Asked one-each s st (start .known) to
+  line-asked p =
+      let w = line-ends in
+      let o = h .standing .stands .sound .order in
+      asked to (record { stands = h .standing .stands; cached = rw p (known-again _ s st (st .offset) o) }) (omega (arith, o, w .on)) (w .within)
+
+  -- What is made of its end and its positions is what `line-comment` gives.
+  pub line-reads : {n : ℕ} {start end : Located} {next : State}
+      → n ≡ to - from
+      → start ≡ located s st (st .offset)
+      → end ≡ located s st to
+      → next ≡ one-more-comment (advance st to)
+      → ReadsAny s (line-comment s (lexeme s from (st .offset)) st) (record {
+        item = record { kind = 0; sp = start .pos; ep = end .pos; length = n; comments = next .comments; extra = Comment true };
+        payload = Part from to;
+        next = next;
+        known = end .known;
+      })
+  unfolding line-comment
+  line-reads {n} {start} {end} {next} q a b t name f =
+      let w = line-ends in
+      let bytes : lexeme s from to ≡ lexeme s from (st .offset) ++ lexeme s (st .offset) to = sym (slice-slice from (st .offset) to s (h .order) (w .on) (w .within)) in
+      let long : to - from ≡ length (lexeme s from (st .offset) ++ lexeme s (st .offset) to) = sym (length-slice from to s (w .within)) ∙ ap length bytes in
+      rw (← e) record {
+        item = rw (q ∙ long, a, b, t) refl;
+        payload = record { is = bytes; long = long; inside = w .within };
+        next = t;
+        known = rw b (known-same _ refl refl (known-again _ s st to (omega (arith, h .standing .stands .sound .order, w .on))));
+      }

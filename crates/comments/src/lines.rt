@@ -1,0 +1,55 @@
+// A line's comment: the source's `line_comment`.
+use crate::runs::line_run;
+use definition::Extra;
+use definition::Item;
+use definition::State;
+use described::Payload;
+use described::Read;
+use described::span;
+use positions::Cache;
+use positions::pos_of;
+ghost use mathlib.Core.Path.{_≡_};
+ghost use Prim.Native.Nat.{_<_};
+ghost use Rattle.definition.specs.Text.{lexeme};
+ghost use Rattle.definition.specs.State.{one-more-comment};
+ghost use Rattle.definition.specs.Comment.{line-comment};
+ghost use Rattle.comments.specs.Contracts.{Behind, ReadsAny};
+
+// A comment was read.
+fn one_more_comment(mut st: State) -> State
+    requires { ⌜ st .comments < 4294967295 ⌝ }
+    ensures { λ r. ⌜ r ≡ one-more-comment st ⌝ }
+{
+    st.comments += 1;
+    st
+}
+
+// The rest of the line from the state st on, behind the bytes from `from` up to there.
+pub fn line_comment(text: &[u8], from: usize, st: State, known: Cache) -> Read
+    requires { ⌜ Behind (now text) from st known ⌝ }
+    ensures { λ r. ⌜ ReadsAny (now (text .entry)) (line-comment (now (text .entry)) (lexeme (now (text .entry)) from (st .offset)) st) r ⌝ }
+{
+    let to = line_run(text, st.offset as usize);
+    let start = pos_of(text, st, known, st.offset);
+    let column = start.known;
+    let end = pos_of(text, st, column, to as u32);
+    let next = one_more_comment(st.advance(to as u32));
+    let sp = start.pos;
+    let ep = end.pos;
+    let item = Item {
+        kind: 0,
+        sp: sp,
+        ep: ep,
+        length: span(from, to) as u32,
+        comments: next.comments,
+        extra: Extra::Comment(true),
+    };
+    let payload = Payload::Part { from: from, to: to };
+    let known = end.known;
+    Read {
+        item: item,
+        payload: payload,
+        next: next,
+        known: known,
+    }
+}

@@ -1,0 +1,7 @@
+-- `Pieces` is about the part of the text that a piece is made of, `Widths` is about the width of a piece, `Kept` about the bytes that stay,
+-- `Writing` about writing them, `Trimming` says that width and bytes together are `maybe-trim-lines`.
+pub mod Pieces
+pub mod Widths
+pub mod Kept
+pub mod Writing
+pub mod Trimming
