@@ -1,0 +1,4 @@
+pub mod CopyLaws
+pub mod PutLaws
+pub mod Tails
+pub mod WriteLaws

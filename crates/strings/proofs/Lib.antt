@@ -1,0 +1,9 @@
+pub mod MoveLaws
+pub mod TurnLaws
+pub mod EscapeLaws
+pub mod Goes
+pub mod LiteralLaws
+pub mod Growth
+pub mod HeldLaws
+pub mod ReadLaws
+pub mod LoopLaws

@@ -1,0 +1,113 @@
+-- A literal, move by move: what a move adds to it, where it leads, what the definition's turn makes of it, and what is known
+-- of a literal that is read up to some byte. s is the text, f the class file.
+use Prim.Native.Nat.{ℕ, _-_, _≤_, _<_}
+use mathlib.Core.Path.{_≡_}
+use mathlib.Core.List.{[], _++_}
+use lib.ListN.{length}
+use Rattle.definition.specs.Basics.{Bytes, Turn, again, done}
+use Rattle.definition.specs.Utf8.{encode}
+use Rattle.definition.specs.Text.{lexeme}
+use Rattle.definition.specs.Position.{cur-pos}
+use Rattle.definition.specs.Kinds.{kind}
+use Rattle.definition.specs.State.{no-pos, started, advance, new-line}
+use Rattle.definition.specs.Item.{Step, tok, lex-error}
+use Rattle.definition.specs.declared.Pos.{Pos}
+use Rattle.definition.specs.declared.State.{State}
+use Rattle.definition.specs.declared.Extra.the-variants.{NoExtra}
+use Rattle.progress.proofs.Literals.{string-from}
+use Rattle.described.specs.Described.{literal}
+use Rattle.strings.specs.declared.Move.{Move}
+use Rattle.strings.specs.declared.Move.the-variants.{Copy, Skip, Line, Char, Surrogate, Close, Open}
+
+-- the bytes that a move at byte i adds
+abbrev pub adds : Bytes → ℕ → Move → Bytes
+adds s i (Copy e) = lexeme s i e
+adds s i (Skip e) = []
+adds s i (Line e) = lexeme s i e
+adds s i (Char c e) = encode c
+adds s i Surrogate = []
+adds s i (Close e) = []
+adds s i Open = []
+
+-- how many they are
+abbrev pub added : ℕ → Move → ℕ
+added i (Copy e) = e - i
+added i (Skip e) = 0
+added i (Line e) = e - i
+added i (Char c e) = length (encode c)
+added i Surrogate = 0
+added i (Close e) = 0
+added i Open = 0
+
+-- where a move from byte i ends
+abbrev pub ends-at : ℕ → Move → ℕ
+ends-at i (Copy e) = e
+ends-at i (Skip e) = e
+ends-at i (Line e) = e
+ends-at i (Char c e) = e
+ends-at i Surrogate = i
+ends-at i (Close e) = e
+ends-at i Open = i
+
+-- the literal goes on behind a move
+abbrev pub On : Move → Type 0
+On (Copy e) = Unit {0}
+On (Skip e) = Unit {0}
+On (Line e) = Unit {0}
+On (Char c e) = Unit {0}
+On Surrogate = ⊥
+On (Close e) = ⊥
+On Open = ⊥
+
+-- e is behind i and within the text
+pub record Past (s : Bytes) (i e : ℕ) : Type 0 where
+  pub past : i < e
+  pub within : e ≤ length s
+
+-- c has bytes, fewer than there are from i up to e
+pub record Fewer (i c e : ℕ) : Type 0 where
+  pub small : c ≤ 0x10FFFF
+  pub fewer : length (encode c) < e - i
+
+-- what a move from i ends at
+abbrev pub Goes : Bytes → ℕ → Move → Type 0
+Goes s i (Copy e) = Past s i e
+Goes s i (Skip e) = Past s i e
+Goes s i (Line e) = Past s i e
+Goes s i (Char c e) = Past s i e × Fewer i c e
+Goes s i Surrogate = Unit {0}
+Goes s i (Close e) = Past s i e
+Goes s i Open = Unit {0}
+
+-- the literal that ends before byte e, where st stands at its closing quote
+abbrev pub closed : Bytes → Bytes → Pos → State → ℕ → Step
+closed s acc sp st e = tok (kind "STRING") acc sp (cur-pos s (advance st e)) NoExtra (advance st e)
+
+-- what a turn makes of what stands at the state's offset
+abbrev pub does : Bytes → Pos → State → Bytes → Move → Turn (State × Bytes) Step
+does s sp st acc (Copy e) = again (advance st e, acc ++ lexeme s (st .offset) e)
+does s sp st acc (Skip e) = again (new-line (advance st e), acc)
+does s sp st acc (Line e) = again (new-line (advance st e), acc ++ lexeme s (st .offset) e)
+does s sp st acc (Char c e) = again (advance st e, acc ++ encode c)
+does s sp st acc Surrogate = done (lex-error s st 7 [] (cur-pos s st) (cur-pos s st))
+does s sp st acc (Close e) = done (closed s acc sp st e)
+does s sp st acc Open = done (lex-error s st 1 [] (cur-pos s st) (cur-pos s st))
+
+-- a turn, as far as it is about states
+abbrev pub states : Turn (State × Bytes) Step → Turn State Step
+states (again a) = again (a .0)
+states (done t) = done t
+
+-- the literal whose bytes before byte i are acc
+abbrev pub literal-from : Bytes → Bytes → ℕ → Bytes → Bytes
+literal-from s f i acc = string-from s f no-pos (advance (started 0 0) i, acc) .payload
+
+-- the literal from byte `from` on is read up to byte i: acc is what it holds so far, count bytes. It holds no more bytes than
+-- were read, and where it holds as many they are those that were read
+pub record Held (s f : Bytes) (from i count : ℕ) (acc : Bytes) : Type 0 where
+  pub spells : literal-from s f i acc ≡ literal s f from
+  pub counted : count ≡ length acc
+  pub begun : from ≤ i
+  pub within : i ≤ length s
+  pub short : length acc ≤ i - from
+  pub plain : length acc ≡ i - from → acc ≡ lexeme s from i
