@@ -42,7 +42,7 @@ rest-none : (l : Bytes) (a b : ℕ) → length l ≡ 0 → elim l [ [] ↦ a | x
 rest-none [] a b h = refl
 rest-none (x ∷ l) a b h = absurd (omega arith)
 
-module _ {s name : Bytes} {at : Place} {e : ℕ} (h : Chose s name at e) where
+module _ {s : Bytes} {at : Place} {e : ℕ} (h : Chose s at e) where
   abbrev st : State
   st = at .st
 
@@ -58,12 +58,12 @@ module _ {s name : Bytes} {at : Place} {e : ℕ} (h : Chose s name at e) where
   cut-within j l q = stands-within (cut-stands j l q)
 
   -- a token may end at the cut
-  pub cut-spans : {to from : ℕ} → to ≡ no-comment s i e → Spans s name at i to (Part from to)
+  pub cut-spans : {name : Bytes} {to from : ℕ} → to ≡ no-comment s i e → Spans s name at i to (Part from to)
   cut-spans q = spans-to h (cut-stands i (omega arith) q) (part-sized h (cut-within i (omega arith) q))
 
   -- so may one that begins behind a `>`
-  pub gt-spans : {to : ℕ} → to ≡ no-comment s (i + 1) e → Spans s name at (i + 1) to (Greater (i + 1) to)
-  gt-spans {to} q =
+  pub gt-spans : {name : Bytes} {to : ℕ} → to ≡ no-comment s (i + 1) e → Spans s name at (i + 1) to (Greater (i + 1) to)
+  gt-spans {name} {to} q =
       let l : i ≤ i + 1 = omega arith in
       let w : to ≤ length s = cut-within (i + 1) l q in
       record {
@@ -74,7 +74,7 @@ module _ {s name : Bytes} {at : Place} {e : ℕ} (h : Chose s name at e) where
         sized = record { listed = tt; small = omega (arith, h .standing .stands .short) };
       }
 
-  module _ {r : Read} where
+  module _ (name : Bytes) {r : Read} where
     -- a keyword before operators, and by itself
     module _ {to n k : ℕ} (x : Entry) (q : to ≡ no-comment s i e) (m : n ≡ length (cps (x .0)))
         (build : (f bytes : Bytes) → Describes s name f (Part (i + n) to) bytes → Reads s name f (spanned s st i to k bytes NoExtra) r) where

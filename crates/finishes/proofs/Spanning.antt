@@ -37,7 +37,7 @@ nothing-describes s name f = record { is = refl; long = refl; inside = omega ari
 pub nothing-sized : {name : Bytes} → Sized name (Part 0 0)
 nothing-sized = record { listed = tt; small = omega arith }
 
-module _ {s name : Bytes} {at : Place} {e : ℕ} (h : Chose s name at e) where
+module _ {s : Bytes} {at : Place} {e : ℕ} (h : Chose s at e) where
   -- behind the choice reading stands
   pub behind : Stands s (advance (at .st) e)
   behind = walk-stands (h .standing .stands) (h .onward .walk)
@@ -47,11 +47,11 @@ module _ {s name : Bytes} {at : Place} {e : ℕ} (h : Chose s name at e) where
   same-line = omega (arith, h .standing .stands .sound .order, h .onward .past)
 
   -- a part of the text is not too long
-  pub part-sized : {i j : ℕ} → j ≤ length s → Sized name (Part i j)
+  pub part-sized : {name : Bytes} {i j : ℕ} → j ≤ length s → Sized name (Part i j)
   part-sized l = record { listed = tt; small = omega (arith, h .standing .stands .short) }
 
   -- a token may end wherever reading stands
-  pub spans-to : {j : ℕ} {p : Payload} → Stands s (advance (at .st) j) → Sized name p → Spans s name at (at .st .offset) j p
+  pub spans-to : {name : Bytes} {j : ℕ} {p : Payload} → Stands s (advance (at .st) j) → Sized name p → Spans s name at (at .st .offset) j p
   spans-to n z = record {
     standing = h .standing;
     from = h .standing .stands .sound .order;
@@ -61,7 +61,7 @@ module _ {s name : Bytes} {at : Place} {e : ℕ} (h : Chose s name at e) where
   }
 
   -- so at the choice's end
-  pub spans : {p : Payload} → Sized name p → Spans s name at (at .st .offset) e p
+  pub spans : {name : Bytes} {p : Payload} → Sized name p → Spans s name at (at .st .offset) e p
   spans z = spans-to behind z
 
   -- the positions of the choice's ends are asked for one behind the other
@@ -69,7 +69,7 @@ module _ {s name : Bytes} {at : Place} {e : ℕ} (h : Chose s name at e) where
   end-asked start q = asks (asked-stands start (h .standing) (h .standing .stands .sound .order) q) e same-line (h .onward .within)
 
   -- an error over the choice has them as its range
-  pub over-reads : {f bytes : Bytes} {number : ℕ} {r : Read} (start end : Located) → start ≡ located s (at .st) (at .st .offset) → end ≡ located s (at .st) e
+  pub over-reads : {name f bytes : Bytes} {number : ℕ} {r : Read} (start end : Located) → start ≡ located s (at .st) (at .st .offset) → end ≡ located s (at .st) e
       → Reads s name f (lex-error s (at .st) number bytes (start .pos) (end .pos)) r
       → Reads s name f (lex-error s (at .st) number bytes (cur-pos s (at .st)) (pos-of s (at .st) e)) r
   over-reads start end p q built = rw (p, q) at built

@@ -41,11 +41,10 @@ abbrev pub DoesOf : Bytes → Bytes → ℕ → (String → Token-turn) → Read
 DoesOf s name k t r = (x : String) → k ≡ kind x → Does s name (t x) r
 
 -- a choice that ends at e was made where the reader stands, between comments
-pub record Chose (s name : Bytes) (at : Place) (e : ℕ) : Type 0 where
+pub record Chose (s : Bytes) (at : Place) (e : ℕ) : Type 0 where
   pub standing : Standing s (at .st) (at .known)
   pub between : at .st .mode ≡ 0
   pub onward : Onward s (at .st .offset) e
-  pub named : length name ≤ 4096
 
 -- what a token from i up to e asks for
 pub record Spans (s name : Bytes) (at : Place) (i e : ℕ) (p : Payload) : Type 0 where

@@ -25,7 +25,7 @@ const OPINFIX4: u32 = 160;
 
 // The token of a word of the tables; where it is none of them, the lexeme and the kind given.
 fn worded(text: &[u8], name: &[u8], at: Place, e: usize, word: Word, kind: u32) -> Read
-    requires { ⌜ Chose (now text) (now name) at e × Placed word ⌝ }
+    requires { ⌜ Chose (now text) at e × Placed word ⌝ }
     ensures { λ r. ⌜ Does (now (text .entry)) (now (name .entry)) (worded (now (text .entry)) (at .st) e word kind) r ⌝ }
 {
     let st = at.st;
@@ -44,7 +44,7 @@ fn worded(text: &[u8], name: &[u8], at: Place, e: usize, word: Word, kind: u32) 
 
 // An identifier or a keyword; error 3 where its prefix is reserved.
 pub fn ident(text: &[u8], name: &[u8], at: Place, e: usize) -> Read
-    requires { ⌜ Chose (now text) (now name) at e ⌝ }
+    requires { ⌜ Chose (now text) at e ⌝ }
     ensures { λ r. ⌜ Does (now (text .entry)) (now (name .entry)) (ident (now (text .entry)) (at .st) e) r ⌝ }
 {
     let st = at.st;
@@ -58,7 +58,7 @@ pub fn ident(text: &[u8], name: &[u8], at: Place, e: usize) -> Read
 
 // The name of a constructor or of a module.
 pub fn capital_name(text: &[u8], name: &[u8], at: Place, e: usize) -> Read
-    requires { ⌜ Chose (now text) (now name) at e ⌝ }
+    requires { ⌜ Chose (now text) at e ⌝ }
     ensures { λ r. ⌜ Does (now (text .entry)) (now (name .entry)) (finish-word (now (text .entry)) (at .st) e constructors "NAME") r ⌝ }
 {
     let st = at.st;
@@ -68,7 +68,7 @@ pub fn capital_name(text: &[u8], name: &[u8], at: Place, e: usize) -> Read
 
 // An operator beyond ASCII.
 pub fn unicode_operator(text: &[u8], name: &[u8], at: Place, e: usize) -> Read
-    requires { ⌜ Chose (now text) (now name) at e ⌝ }
+    requires { ⌜ Chose (now text) at e ⌝ }
     ensures { λ r. ⌜ Does (now (text .entry)) (now (name .entry)) (finish-word (now (text .entry)) (at .st) e uoperators "OPINFIX4") r ⌝ }
 {
     let st = at.st;

@@ -34,7 +34,7 @@ fn cleaned(text: &[u8], i: usize, e: usize) -> Part
 
 // A number of a kind.
 pub fn number(text: &[u8], name: &[u8], at: Place, e: usize, kind: u32) -> Read
-    requires { ⌜ Chose (now text) (now name) at e ⌝ }
+    requires { ⌜ Chose (now text) at e ⌝ }
     ensures { λ r. ⌜ DoesOf (now (text .entry)) (now (name .entry)) kind (number (now (text .entry)) (at .st) e) r ⌝ }
 {
     let st = at.st;
@@ -48,7 +48,7 @@ pub fn number(text: &[u8], name: &[u8], at: Place, e: usize, kind: u32) -> Read
 
 // A number of a byte; error 4 where it is too big.
 pub fn uint8(text: &[u8], name: &[u8], at: Place, e: usize) -> Read
-    requires { ⌜ Chose (now text) (now name) at e ⌝ }
+    requires { ⌜ Chose (now text) at e ⌝ }
     ensures { λ r. ⌜ Does (now (text .entry)) (now (name .entry)) (uint8 (now (text .entry)) (at .st) e) r ⌝ }
 {
     let st = at.st;
@@ -65,7 +65,7 @@ pub fn uint8(text: &[u8], name: &[u8], at: Place, e: usize) -> Read
 
 // Error 5: what begins like a number and is none, with its text.
 pub fn bad_number(text: &[u8], name: &[u8], at: Place, e: usize) -> Read
-    requires { ⌜ Chose (now text) (now name) at e ⌝ }
+    requires { ⌜ Chose (now text) at e ⌝ }
     ensures { λ r. ⌜ Does (now (text .entry)) (now (name .entry)) (bad-number (now (text .entry)) (at .st) e) r ⌝ }
 {
     let st = at.st;
@@ -78,7 +78,7 @@ pub fn bad_number(text: &[u8], name: &[u8], at: Place, e: usize) -> Read
 
 // A character, with its code point.
 pub fn char_lit(text: &[u8], name: &[u8], at: Place, e: usize) -> Read
-    requires { ⌜ Chose (now text) (now name) at e ⌝ }
+    requires { ⌜ Chose (now text) at e ⌝ }
     ensures { λ r. ⌜ Does (now (text .entry)) (now (name .entry)) (char-lit (now (text .entry)) (at .st) e) r ⌝ }
 {
     let st = at.st;

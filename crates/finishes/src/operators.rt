@@ -22,7 +22,7 @@ const OPINFIX0C: u32 = 122;
 
 // A keyword and the operator characters behind it, or the keyword by itself where the cut leaves none of them.
 pub fn kw_op(text: &[u8], name: &[u8], at: Place, e: usize, word: usize) -> Read
-    requires { ⌜ Chose (now text) (now name) at e × (word < 9) ⌝ }
+    requires { ⌜ Chose (now text) at e × (word < 9) ⌝ }
     ensures { λ r. ⌜ Does (now (text .entry)) (now (name .entry)) (kw-op (now (text .entry)) (at .st) e (entry kw-op-rules word)) r ⌝ }
 {
     let st = at.st;
@@ -39,7 +39,7 @@ pub fn kw_op(text: &[u8], name: &[u8], at: Place, e: usize, word: usize) -> Read
 
 // `>` and symbol characters: the token begins behind the `>`, and its text has it.
 pub fn gt(text: &[u8], name: &[u8], at: Place, e: usize) -> Read
-    requires { ⌜ Chose (now text) (now name) at e ⌝ }
+    requires { ⌜ Chose (now text) at e ⌝ }
     ensures { λ r. ⌜ Does (now (text .entry)) (now (name .entry)) (gt (now (text .entry)) (at .st) e) r ⌝ }
 {
     let st = at.st;
@@ -51,7 +51,7 @@ pub fn gt(text: &[u8], name: &[u8], at: Place, e: usize) -> Read
 
 // An operator; cut to nothing it is a line's comment.
 pub fn op(text: &[u8], name: &[u8], at: Place, e: usize, kind: u32) -> Read
-    requires { ⌜ Chose (now text) (now name) at e ⌝ }
+    requires { ⌜ Chose (now text) at e ⌝ }
     ensures { λ r. ⌜ DoesOf (now (text .entry)) (now (name .entry)) kind (op (now (text .entry)) (at .st) e) r ⌝ }
 {
     let st = at.st;

@@ -73,7 +73,7 @@ pub fn error_over(
     number: u32,
     payload: Payload,
 ) -> Read
-    requires { ⌜ Chose (now text) (now name) at e × Sized (now name) payload ⌝ }
+    requires { ⌜ Chose (now text) at e × Sized (now name) payload ⌝ }
     ensures { λ r. ⌜ ((f bytes : Bytes) → Describes (now (text .entry)) (now (name .entry)) f payload bytes → Reads (now (text .entry)) (now (name .entry)) f (lex-error (now (text .entry)) (at .st) number bytes (cur-pos (now (text .entry)) (at .st)) (pos-of (now (text .entry)) (at .st) e)) r) ⌝ }
 {
     let st = at.st;

@@ -23,7 +23,7 @@ finish-from-requires c κs = gt-spans (c .before .before .before .before .before
 
 returns : tie.Need-returns
 unfolding kind kind-names number-from
-returns c = gt-does (c .before .before .before .before .before .before .pre) (c .before .no-comment .ensures) (c .finish-from .ensures)
+returns c = gt-does (c .before .before .before .before .before .before .pre) _ (c .before .no-comment .ensures) (c .finish-from .ensures)
 
 pub gt-spec : {M : Type 1} → statement M
 gt-spec = tie.close (tie.spec cast-j add-j no-comment-requires finish-from-requires returns)

@@ -31,7 +31,7 @@ finish-requires : tie.Need-finish-requires
 finish-requires c κs = cut-spans (c .before .before .before .before .before .before .before .before .pre .0) (c .before .before .before .no-comment .ensures)
 
 returns : tie.Need-returns
-returns c = kw-op-does (c .before .before .before .before .before .before .before .before .before .pre .0) _ (c .before .before .before .before .no-comment .ensures) (c .before .before .before .kw-op-length .ensures) (c .finish .ensures) (c .before .before .if1 .taken) (c .before .kw-op-kind .ensures)
+returns c = kw-op-does (c .before .before .before .before .before .before .before .before .before .pre .0) _ _ (c .before .before .before .before .no-comment .ensures) (c .before .before .before .kw-op-length .ensures) (c .finish .ensures) (c .before .before .if1 .taken) (c .before .kw-op-kind .ensures)
 
 kw-op-plain-kind-requires : tie.Need-kw-op-plain-kind-requires
 kw-op-plain-kind-requires c κs = search needs
@@ -40,7 +40,7 @@ finish-requires-2 : tie.Need-finish-requires-2
 finish-requires-2 c κs = cut-spans (c .before .before .before .before .before .before .before .before .pre .0) (c .before .before .before .no-comment .ensures)
 
 returns-2 : tie.Need-returns-2
-returns-2 c = kw-plain-does (c .before .before .before .before .before .before .before .before .before .pre .0) _ (c .before .before .before .before .no-comment .ensures) (c .before .before .before .kw-op-length .ensures) (c .finish2 .ensures) (c .before .before .if1 .left) (c .before .kw-op-plain-kind .ensures)
+returns-2 c = kw-plain-does (c .before .before .before .before .before .before .before .before .before .pre .0) _ _ (c .before .before .before .before .no-comment .ensures) (c .before .before .before .kw-op-length .ensures) (c .finish2 .ensures) (c .before .before .if1 .left) (c .before .kw-op-plain-kind .ensures)
 
 pub kw-op-spec : {M : Type 1} → statement M
 kw-op-spec =

@@ -1,0 +1,3 @@
+pub mod Plain
+pub mod Tabled
+pub mod Acting
