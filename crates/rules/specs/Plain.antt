@@ -2,9 +2,7 @@
 -- choice, k its place, e its end, w its word.
 use Prim.Native.Nat.{ℕ, _+_, _-_}
 use Prim.Native.String.{String}
-use mathlib.Core.Bool.{true, false}
 use mathlib.Core.List.{List, [], _∷_, _++_}
-use lib.Dec.{eqb}
 use lib.ListN.{getD}
 use Rattle.definition.specs.Basics.{Bytes}
 use Rattle.definition.specs.Text.{lexeme}
@@ -13,6 +11,7 @@ use Rattle.definition.specs.Kinds.{kind}
 use Rattle.definition.specs.Numbers.{show}
 use Rattle.definition.specs.Token.{entry}
 use Rattle.definition.specs.declared.State.{State}
+use Rattle.rules.specs.Keys.{at-key}
 use Rattle.described.specs.Described.{Sized, Describes}
 use Rattle.described.specs.declared.Payload.{Payload}
 
@@ -28,28 +27,32 @@ place-kinds =
 abbrev pub kind-of : ℕ → ℕ
 kind-of k = kind (getD place-kinds k "")
 
--- the kind, by the tables of words and by the place
-unfoldable pub plain-kind : ℕ → ℕ → ℕ
-plain-kind k w =
-    elim (eqb k 1) [
-      | true ↦ kind (entry early-literals w .1)
-      | false ↦ elim (eqb k 36) [
-        | true ↦ kind (entry op-tokens w .1)
-        | false ↦ elim (eqb k 50) [ true ↦ kind (entry mixfix-rules w .1) | false ↦ kind-of k ]
-      ]
-    ]
+-- the kinds, by the tables of words; else by the place
+abbrev pub table-kinds : ℕ → List (ℕ × ℕ)
+table-kinds w =
+    (50, kind (entry mixfix-rules w .1))
+    ∷ (36, kind (entry op-tokens w .1))
+    ∷ (1, kind (entry early-literals w .1))
+    ∷ []
 
--- the text
-unfoldable pub plain-text : Bytes → Bytes → State → ℕ → ℕ → ℕ → Bytes
-plain-text s name st k e w =
-    elim (eqb k 4) [ true ↦ name | false ↦
-    elim (eqb k 5) [ true ↦ show (st .line) | false ↦
-    elim (eqb k 6) [ true ↦ name ++ (cps "(" ++ (show (st .line) ++ cps ")")) | false ↦
-    elim (eqb k 26) [ true ↦ lexeme s (st .offset) (e - 1) | false ↦
-    elim (eqb k 32) [ true ↦ lexeme s (st .offset + 2) (e - 2) | false ↦
-    elim (eqb k 36) [ true ↦ cps (entry op-tokens w .2) | false ↦
-    elim (eqb k 37) [ true ↦ cps "<" | false ↦
-    elim (eqb k 50) [ true ↦ lexeme s (st .offset) e | false ↦ [] ] ] ] ] ] ] ] ]
+abbrev pub plain-kind : ℕ → ℕ → ℕ
+plain-kind k w = at-key k (table-kinds w) (kind-of k)
+
+-- the texts, by place
+abbrev pub plain-texts : Bytes → Bytes → State → ℕ → ℕ → List (ℕ × Bytes)
+plain-texts s name st e w =
+    (50, lexeme s (st .offset) e)
+    ∷ (37, cps "<")
+    ∷ (36, cps (entry op-tokens w .2))
+    ∷ (32, lexeme s (st .offset + 2) (e - 2))
+    ∷ (26, lexeme s (st .offset) (e - 1))
+    ∷ (6, name ++ (cps "(" ++ (show (st .line) ++ cps ")")))
+    ∷ (5, show (st .line))
+    ∷ (4, name)
+    ∷ []
+
+abbrev pub plain-text : Bytes → Bytes → State → ℕ → ℕ → ℕ → Bytes
+plain-text s name st k e w = at-key k (plain-texts s name st e w) []
 
 -- p describes these bytes, and they are not too many
 pub record Gives (s name : Bytes) (p : Payload) (bytes : Bytes) : Type 0 where

@@ -5,16 +5,18 @@
 // place's table (Tabled).
 // Assumed: nothing but what `act`'s `requires` says: a reader stands in a sound state of a legal text, between comments, and
 // the choice is `select`'s.
+pub mod table; // table.rt: the rule and the kind of each place
 pub mod plain; // plain.rt: tokens that their places and words decide
 pub mod readers; // readers.rt: what is read on from behind a choice
 
-use crate::plain::kind_of;
 use crate::plain::plain;
 use crate::readers::comment_start;
 use crate::readers::fenced;
 use crate::readers::language;
 use crate::readers::literal;
 use crate::readers::slashes;
+use crate::table::kind_of;
+use crate::table::rule_of;
 use definition::Choice;
 use definition::State;
 use described::Place;
@@ -41,7 +43,7 @@ ghost use Rattle.rules.specs.Acting.{Acts};
 // An unexpected character.
 const UNEXPECTED: u32 = 6;
 
-// What is done with a choice.
+// What is done with a choice. (The numbers are those of the rules in `table`.)
 pub fn act(text: &[u8], name: &[u8], classes: &[u8], at: Place, choice: Choice) -> Turned
     requires { ⌜ Acts (now text) (now name) (now classes) at choice ⌝ }
     ensures { λ r. ⌜ Turns (now (text .entry)) (now (name .entry)) (now (classes .entry)) (act (now (text .entry)) (now (name .entry)) (now (classes .entry)) (at .st) choice) r ⌝ }
@@ -50,31 +52,26 @@ pub fn act(text: &[u8], name: &[u8], classes: &[u8], at: Place, choice: Choice) 
     let known = at.known;
     let k = choice.place;
     let e = choice.end;
-    match k {
-        7 | 29 => Turned::Again(moved(at, e)),
-        8 => Turned::Again(next_line(at, e)),
-        14 => Turned::Done(ident(text, name, at, e)),
-        15 => Turned::Done(capital_name(text, name, at, e)),
-        16 | 18 | 19 | 20 | 21 | 22 | 23 | 24 | 25 => {
-            Turned::Done(number(text, name, at, e, kind_of(k)))
-        }
-        17 => Turned::Done(uint8(text, name, at, e)),
-        27 => Turned::Done(bad_number(text, name, at, e)),
-        9 | 10 => Turned::Done(char_lit(text, name, at, e)),
-        12 => Turned::Done(kw_op(text, name, at, e, choice.word)),
-        38 => Turned::Done(gt(text, name, at, e)),
-        39 | 40 | 41 | 42 | 43 | 44 | 45 | 46 | 47 | 48 => {
-            Turned::Done(op(text, name, at, e, kind_of(k)))
-        }
-        49 => Turned::Done(unicode_operator(text, name, at, e)),
+    let rule = rule_of(k);
+    match rule {
+        1 => Turned::Done(plain(text, name, at, choice)),
         2 => Turned::Done(fenced(text, name, at, e)),
         3 => Turned::Done(language(text, name, at, e)),
-        28 => Turned::Done(comment_start(text, at, e)),
-        30 => Turned::Done(slashes(text, at, e)),
-        31 => Turned::Done(literal(text, name, classes, at, e)),
-        1 | 4 | 5 | 6 | 11 | 13 | 26 | 32 | 33 | 34 | 35 | 36 | 37 | 50 => {
-            Turned::Done(plain(text, name, at, choice))
-        }
+        4 => Turned::Again(moved(at, e)),
+        5 => Turned::Again(next_line(at, e)),
+        6 => Turned::Done(char_lit(text, name, at, e)),
+        7 => Turned::Done(kw_op(text, name, at, e, choice.word)),
+        8 => Turned::Done(ident(text, name, at, e)),
+        9 => Turned::Done(capital_name(text, name, at, e)),
+        10 => Turned::Done(number(text, name, at, e, kind_of(k))),
+        11 => Turned::Done(uint8(text, name, at, e)),
+        12 => Turned::Done(bad_number(text, name, at, e)),
+        13 => Turned::Done(comment_start(text, at, e)),
+        14 => Turned::Done(slashes(text, at, e)),
+        15 => Turned::Done(literal(text, name, classes, at, e)),
+        16 => Turned::Done(gt(text, name, at, e)),
+        17 => Turned::Done(op(text, name, at, e, kind_of(k))),
+        18 => Turned::Done(unicode_operator(text, name, at, e)),
         _ => Turned::Done(error_here(text, name, st, known, UNEXPECTED)),
     }
 }

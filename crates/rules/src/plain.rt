@@ -1,4 +1,5 @@
 // Tokens that their places and words decide: what they hold is told without a look at the text.
+use crate::table::kind_of;
 use definition::Choice;
 use definition::Extra;
 use definition::State;
@@ -10,68 +11,13 @@ use entries::kind_at;
 use finishes::tokens::finish;
 use words::early_kind;
 ghost use mathlib.Core.Path.{_≡_};
-ghost use Prim.Native.Nat.{_<_, _≤_};
+ghost use Prim.Native.Nat.{_≤_};
 ghost use lib.ListN.{length};
 ghost use Rattle.definition.specs.Basics.{Bytes};
 ghost use Rattle.definition.specs.Token.{finish};
 ghost use Rattle.finishes.specs.Finishing.{Chose, Does};
-ghost use Rattle.rules.specs.Plain.{kind-of, plain-kind, plain-text, Gives};
+ghost use Rattle.rules.specs.Plain.{plain-kind, plain-text, Gives};
 ghost use Rattle.rules.specs.Tabled.{Tabled};
-
-// The kinds of the places that decide it by themselves, by place; 0 for the others.
-const KINDS: [u32; 51] = [
-    0,
-    0,
-    0,
-    0,
-    148,
-    166,
-    148,
-    0,
-    0,
-    0,
-    0,
-    168,
-    0,
-    145,
-    0,
-    0,
-    166,
-    169,
-    151,
-    152,
-    153,
-    154,
-    155,
-    156,
-    157,
-    158,
-    170,
-    0,
-    0,
-    0,
-    0,
-    0,
-    65,
-    171,
-    112,
-    172,
-    0,
-    122,
-    0,
-    159,
-    160,
-    123,
-    121,
-    161,
-    122,
-    162,
-    163,
-    164,
-    120,
-    0,
-    0,
-];
 
 // Where the tables of operator tokens and of mixfix words begin among the entries, and the text `<`.
 const OP_TOKENS: usize = 119;
@@ -79,14 +25,6 @@ const OP_TOKENS: usize = 119;
 const MIXFIX: usize = 172;
 
 const LESS: usize = 180;
-
-// The kind of a place.
-pub fn kind_of(place: u32) -> u32
-    requires { ⌜ place < 51 ⌝ }
-    ensures { λ r. ⌜ r ≡ kind-of place ⌝ }
-{
-    KINDS[place as usize]
-}
 
 // The kind of a token that its place and word decide.
 fn plain_kind(choice: Choice) -> u32
