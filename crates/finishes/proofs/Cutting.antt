@@ -1,7 +1,7 @@
 -- What a line comment cuts off a choice, and what is read of what is left. Rests on the laws of cuts.
 use Prim.Native.Nat.{ℕ, zero, suc, _+_, _-_, _≤_, _<_}
 use native.Mathlib.Omega.{arith}
-use mathlib.Core.Path.{_≡_, refl, sym, ap, subst, _∙_}
+use mathlib.Core.Path.{_≡_, refl, sym, subst}
 use mathlib.Core.Bool.{Bool, true, _&&_}
 use mathlib.Core.List.{List, [], _∷_}
 use lib.Dec.{leb}
@@ -23,9 +23,8 @@ use Rattle.state.specs.Sound.{Stands}
 use Rattle.lemmas.proofs.Cases.{both}
 use Rattle.progress.proofs.Cuts.{no-comment-walks}
 use Rattle.soundness.proofs.Moving.{walk-stands, stands-within}
-use Rattle.described.specs.Described.{Sized, Describes, Reads}
+use Rattle.described.specs.Described.{Describes, Reads}
 use Rattle.described.specs.declared.Place.{Place}
-use Rattle.described.specs.declared.Payload.{Payload}
 use Rattle.described.specs.declared.Payload.the-variants.{Part, Greater}
 use Rattle.described.specs.declared.Read.{Read}
 use Rattle.described.proofs.Describing.{part-describes}

@@ -1,15 +1,14 @@
 -- What the tokens hold that their places and words decide. Rests on the laws of descriptions and of entries.
-use Prim.Native.Nat.{ℕ, _+_, _-_, _≤_, _<_}
+use Prim.Native.Nat.{ℕ, _+_, _≤_, _<_}
 use native.Mathlib.Omega.{arith}
 use mathlib.Core.Path.{_≡_, refl, sym, ap, subst, _∙_}
-use mathlib.Core.List.{[], _∷_, _++_}
+use mathlib.Core.List.{[], _++_}
 use lib.ListN.{length, getD, length-append}
 use Rattle.definition.specs.Basics.{Bytes}
 use Rattle.definition.specs.Utf8.{encode, encode-all}
 use Rattle.definition.specs.Text.{lexeme}
 use Rattle.definition.specs.Tables.{Entry, cps, keywords, constructors, uoperators, op-tokens, mixfix-rules}
 use Rattle.definition.specs.Numbers.{show}
-use Rattle.definition.specs.Kinds.{kind}
 use Rattle.definition.specs.Token.{entry, finish}
 use Rattle.definition.specs.declared.State.{State}
 use Rattle.definition.specs.declared.Choice.{Choice}

@@ -1,7 +1,7 @@
 -- Where what is read on from behind a choice begins. Rests on the laws of where a reader stands.
 use Prim.Native.Nat.{ℕ, _+_, _≤_}
 use native.Mathlib.Omega.{arith}
-use mathlib.Core.Path.{_≡_, refl, sym, ap, subst, _∙_}
+use mathlib.Core.Path.{_≡_, refl, ap, subst, _∙_}
 use lib.ListN.{length}
 use Rattle.definition.specs.Basics.{Bytes}
 use Rattle.definition.specs.ClassFile.{class-check}
@@ -14,10 +14,8 @@ use Rattle.definition.specs.Item.{Step}
 use Rattle.definition.specs.Token.{header}
 use Rattle.definition.specs.Blob as blob-source
 use Rattle.definition.specs.declared.State.{State}
-use Rattle.definition.specs.declared.Pos.{Pos}
 use Rattle.positions.specs.Columns.{located}
 use Rattle.positions.specs.declared.Located.{Located}
-use Rattle.positions.specs.declared.Cache.{Cache}
 use Rattle.soundness.proofs.Moving.{open-stands}
 use Rattle.described.specs.Described.{Reads}
 use Rattle.described.specs.Standing.{Standing}

@@ -1,17 +1,15 @@
 -- What is done with a choice is what its place's rule does, and what that asks for holds. Rests on the laws of choices and of sound
 -- states; that the table of rules is the definition's is computed.
-use Prim.Native.Nat.{ℕ, zero, suc, _+_, _-_, _≤_, _<_}
-use Prim.Native.String.{String}
+use Prim.Native.Nat.{ℕ, zero, suc, _+_, _-_, _<_}
 use native.Mathlib.Omega.{arith}
 use mathlib.Core.Path.{_≡_, refl, sym, ap, subst, _∙_}
 use mathlib.Core.Bool.{Bool, true, false, not, _&&_, _||_, false≢true}
 use mathlib.Core.List.{List, [], _∷_, map}
 use lib.Dec.{eqb}
-use lib.ListN.{length, getD, List·getD-map}
+use lib.ListN.{getD, List·getD-map}
 use borrow.Author.Tests.{eqb-true, eqb-false, eq-eqb, ne-eqb}
 use Rattle.definition.specs.Basics.{Bytes}
 use Rattle.definition.specs.Chars.{count-up}
-use Rattle.definition.specs.Select.{select}
 use Rattle.definition.specs.State.{advance, new-line}
 use Rattle.definition.specs.Token.{Token-turn, Rule, rules, any, act}
 use Rattle.definition.specs.declared.Choice.{Choice}

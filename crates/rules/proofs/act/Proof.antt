@@ -4,29 +4,6 @@ use Rattle.rules.proofs.RuleLaws.{tabled, chose, by-rule, without-rule,
 use borrow.Author.Needs.{needs}
 use Rattle.rules.proofs.act.Statement.{statement}
 use Rattle.rules.proofs.act.Tie as tie
-use Rattle.rules.proofs.act.Reads as reads
-use Rattle.rules.proofs.act.Lts as lts
-use Rattle.described.proofs.places.moved.Reads as moved-reads
-use Rattle.described.proofs.places.next_line.Reads as next-line-reads
-use Rattle.described.proofs.tokens.error_here.Reads as error-here-reads
-use Rattle.finishes.proofs.lexemes.capital_name.Reads as capital-name-reads
-use Rattle.finishes.proofs.lexemes.ident.Reads as ident-reads
-use Rattle.finishes.proofs.lexemes.unicode_operator.Reads as unicode-operator-reads
-use Rattle.finishes.proofs.numbers.bad_number.Reads as bad-number-reads
-use Rattle.finishes.proofs.numbers.char_lit.Reads as char-lit-reads
-use Rattle.finishes.proofs.numbers.number.Reads as number-reads
-use Rattle.finishes.proofs.numbers.uint8.Reads as uint8-reads
-use Rattle.finishes.proofs.operators.gt.Reads as gt-reads
-use Rattle.finishes.proofs.operators.kw_op.Reads as kw-op-reads
-use Rattle.finishes.proofs.operators.op.Reads as op-reads
-use Rattle.rules.proofs.plain.plain.Reads as plain-reads
-use Rattle.rules.proofs.readers.comment_start.Reads as comment-start-reads
-use Rattle.rules.proofs.readers.fenced.Reads as fenced-reads
-use Rattle.rules.proofs.readers.language.Reads as language-reads
-use Rattle.rules.proofs.readers.literal.Reads as literal-reads
-use Rattle.rules.proofs.readers.slashes.Reads as slashes-reads
-use Rattle.rules.proofs.table.kind_of.Reads as kind-of-reads
-use Rattle.rules.proofs.table.rule_of.Reads as rule-of-reads
 
 rule-of-requires : tie.Need-rule-of-requires
 rule-of-requires c κs = tabled (c .before .before .before .before .before .pre) .place

@@ -8,10 +8,6 @@ use native.Mathlib.Omega.{arith}
 use borrow.Author.Needs.{needs}
 use Rattle.finishes.proofs.lexemes.capital_name.Statement.{statement}
 use Rattle.finishes.proofs.lexemes.capital_name.Tie as tie
-use Rattle.finishes.proofs.lexemes.capital_name.Reads as reads
-use Rattle.finishes.proofs.lexemes.capital_name.Lts as lts
-use Rattle.finishes.proofs.lexemes.worded.Reads as worded-reads
-use Rattle.lookups.proofs.table.constructor.Reads as constructor-reads
 
 cast-i : tie.Need-cast-i
 cast-i c = search needs

@@ -8,12 +8,6 @@ use native.Mathlib.Omega.{arith}
 use borrow.Author.Needs.{needs}
 use Rattle.finishes.proofs.lexemes.ident.Statement.{statement}
 use Rattle.finishes.proofs.lexemes.ident.Tie as tie
-use Rattle.finishes.proofs.lexemes.ident.Reads as reads
-use Rattle.finishes.proofs.lexemes.ident.Lts as lts
-use Rattle.finishes.proofs.lexemes.worded.Reads as worded-reads
-use Rattle.finishes.proofs.tokens.error_over.Reads as error-over-reads
-use Rattle.lookups.proofs.reserved.Reads as reserved-reads
-use Rattle.lookups.proofs.table.keyword.Reads as keyword-reads
 
 cast-i : tie.Need-cast-i
 cast-i c = search needs

@@ -8,10 +8,6 @@ use native.Mathlib.Omega.{arith}
 use borrow.Author.Needs.{needs}
 use Rattle.finishes.proofs.lexemes.unicode_operator.Statement.{statement}
 use Rattle.finishes.proofs.lexemes.unicode_operator.Tie as tie
-use Rattle.finishes.proofs.lexemes.unicode_operator.Reads as reads
-use Rattle.finishes.proofs.lexemes.unicode_operator.Lts as lts
-use Rattle.finishes.proofs.lexemes.worded.Reads as worded-reads
-use Rattle.lookups.proofs.table.uoperator.Reads as uoperator-reads
 
 cast-i : tie.Need-cast-i
 cast-i c = search needs

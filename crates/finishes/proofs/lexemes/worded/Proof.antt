@@ -5,10 +5,6 @@ use native.Mathlib.Omega.{arith}
 use borrow.Author.Needs.{needs}
 use Rattle.finishes.proofs.lexemes.worded.Statement.{statement}
 use Rattle.finishes.proofs.lexemes.worded.Tie as tie
-use Rattle.finishes.proofs.lexemes.worded.Reads as reads
-use Rattle.finishes.proofs.lexemes.worded.Lts as lts
-use Rattle.entries.proofs.kind_at.Reads as kind-at-reads
-use Rattle.finishes.proofs.tokens.finish.Reads as finish-reads
 
 enum-known-word : tie.Need-enum-known-word
 enum-known-word c = search needs

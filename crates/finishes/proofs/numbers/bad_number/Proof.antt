@@ -3,9 +3,6 @@ use Rattle.finishes.proofs.Cleaning.{bad-does}
 use borrow.Author.Needs.{needs}
 use Rattle.finishes.proofs.numbers.bad_number.Statement.{statement}
 use Rattle.finishes.proofs.numbers.bad_number.Tie as tie
-use Rattle.finishes.proofs.numbers.bad_number.Reads as reads
-use Rattle.finishes.proofs.numbers.bad_number.Lts as lts
-use Rattle.finishes.proofs.tokens.error_over.Reads as error-over-reads
 
 cast-t7 : tie.Need-cast-t7
 cast-t7 c = search needs

@@ -5,10 +5,6 @@ use Rattle.finishes.proofs.Cleaning.{char-does}
 use borrow.Author.Needs.{needs}
 use Rattle.finishes.proofs.numbers.char_lit.Statement.{statement}
 use Rattle.finishes.proofs.numbers.char_lit.Tie as tie
-use Rattle.finishes.proofs.numbers.char_lit.Reads as reads
-use Rattle.finishes.proofs.numbers.char_lit.Lts as lts
-use Rattle.escapes.proofs.unescape.Reads as unescape-reads
-use Rattle.finishes.proofs.tokens.finish.Reads as finish-reads
 
 cast-unescape : tie.Need-cast-unescape
 cast-unescape c = search needs

@@ -3,9 +3,6 @@ use Rattle.finishes.proofs.Cleaning.{cleaned-at}
 use borrow.Author.Needs.{needs}
 use Rattle.finishes.proofs.numbers.cleaned.Statement.{statement}
 use Rattle.finishes.proofs.numbers.cleaned.Tie as tie
-use Rattle.finishes.proofs.numbers.cleaned.Reads as reads
-use Rattle.finishes.proofs.numbers.cleaned.Lts as lts
-use Rattle.numerals.proofs.clean_number.Reads as clean-number-reads
 
 sub-clean-number : tie.Need-sub-clean-number
 sub-clean-number c = search needs

@@ -5,10 +5,6 @@ use native.Mathlib.Omega.{arith}
 use borrow.Author.Needs.{needs}
 use Rattle.finishes.proofs.numbers.number.Statement.{statement}
 use Rattle.finishes.proofs.numbers.number.Tie as tie
-use Rattle.finishes.proofs.numbers.number.Reads as reads
-use Rattle.finishes.proofs.numbers.number.Lts as lts
-use Rattle.finishes.proofs.numbers.cleaned.Reads as cleaned-reads
-use Rattle.finishes.proofs.tokens.finish.Reads as finish-reads
 
 cast-cleaned : tie.Need-cast-cleaned
 cast-cleaned c = search needs

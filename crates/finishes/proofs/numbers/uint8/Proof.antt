@@ -6,12 +6,6 @@ use native.Mathlib.Omega.{arith}
 use borrow.Author.Needs.{needs}
 use Rattle.finishes.proofs.numbers.uint8.Statement.{statement}
 use Rattle.finishes.proofs.numbers.uint8.Tie as tie
-use Rattle.finishes.proofs.numbers.uint8.Reads as reads
-use Rattle.finishes.proofs.numbers.uint8.Lts as lts
-use Rattle.finishes.proofs.numbers.cleaned.Reads as cleaned-reads
-use Rattle.finishes.proofs.tokens.error_over.Reads as error-over-reads
-use Rattle.finishes.proofs.tokens.finish.Reads as finish-reads
-use Rattle.numerals.proofs.above_255.Reads as above-255-reads
 
 cast-cleaned : tie.Need-cast-cleaned
 cast-cleaned c = search needs

@@ -4,10 +4,6 @@ use Rattle.finishes.proofs.Cutting.{gt-spans, gt-does}
 use borrow.Author.Needs.{needs}
 use Rattle.finishes.proofs.operators.gt.Statement.{statement}
 use Rattle.finishes.proofs.operators.gt.Tie as tie
-use Rattle.finishes.proofs.operators.gt.Reads as reads
-use Rattle.finishes.proofs.operators.gt.Lts as lts
-use Rattle.finishes.proofs.tokens.finish_from.Reads as finish-from-reads
-use Rattle.scan.proofs.bytes.no_comment.Reads as no-comment-reads
 
 cast-j : tie.Need-cast-j
 cast-j c = search needs

@@ -4,13 +4,6 @@ use native.Mathlib.Omega.{arith}
 use borrow.Author.Needs.{needs}
 use Rattle.finishes.proofs.operators.kw_op.Statement.{statement}
 use Rattle.finishes.proofs.operators.kw_op.Tie as tie
-use Rattle.finishes.proofs.operators.kw_op.Reads as reads
-use Rattle.finishes.proofs.operators.kw_op.Lts as lts
-use Rattle.finishes.proofs.tokens.finish.Reads as finish-reads
-use Rattle.scan.proofs.bytes.no_comment.Reads as no-comment-reads
-use Rattle.words.proofs.kw_op_kind.Reads as kw-op-kind-reads
-use Rattle.words.proofs.kw_op_length.Reads as kw-op-length-reads
-use Rattle.words.proofs.kw_op_plain_kind.Reads as kw-op-plain-kind-reads
 
 cast-i : tie.Need-cast-i
 cast-i c = search needs

@@ -3,11 +3,6 @@ use Rattle.finishes.proofs.Cutting.{cut-spans, op-comment, op-does}
 use borrow.Author.Needs.{needs}
 use Rattle.finishes.proofs.operators.op.Statement.{statement}
 use Rattle.finishes.proofs.operators.op.Tie as tie
-use Rattle.finishes.proofs.operators.op.Reads as reads
-use Rattle.finishes.proofs.operators.op.Lts as lts
-use Rattle.comments.proofs.lines.line_comment.Reads as line-comment-reads
-use Rattle.finishes.proofs.tokens.finish.Reads as finish-reads
-use Rattle.scan.proofs.bytes.no_comment.Reads as no-comment-reads
 
 cast-i : tie.Need-cast-i
 cast-i c = search needs

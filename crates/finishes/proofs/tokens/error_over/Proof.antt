@@ -3,10 +3,6 @@ use Rattle.finishes.proofs.Spanning.{asked-stands, same-line, end-asked
 use borrow.Author.Needs.{needs}
 use Rattle.finishes.proofs.tokens.error_over.Statement.{statement}
 use Rattle.finishes.proofs.tokens.error_over.Tie as tie
-use Rattle.finishes.proofs.tokens.error_over.Reads as reads
-use Rattle.finishes.proofs.tokens.error_over.Lts as lts
-use Rattle.described.proofs.tokens.lex_error.Reads as lex-error-reads
-use Rattle.positions.proofs.pos_of.Reads as pos-of-reads
 
 pos-of-requires : tie.Need-pos-of-requires
 pos-of-requires c κs = search needs

@@ -4,11 +4,6 @@ use native.Mathlib.Omega.{arith}
 use borrow.Author.Needs.{needs}
 use Rattle.finishes.proofs.tokens.finish_from.Statement.{statement}
 use Rattle.finishes.proofs.tokens.finish_from.Tie as tie
-use Rattle.finishes.proofs.tokens.finish_from.Reads as reads
-use Rattle.finishes.proofs.tokens.finish_from.Lts as lts
-use Rattle.definition.proofs.State.advance.Reads as advance-reads
-use Rattle.described.proofs.tokens.token.Reads as token-reads
-use Rattle.positions.proofs.pos_of.Reads as pos-of-reads
 
 cast-pos-of : tie.Need-cast-pos-of
 cast-pos-of c = search needs

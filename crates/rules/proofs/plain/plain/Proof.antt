@@ -4,11 +4,6 @@ use Rattle.rules.proofs.PlainLaws.{plain-does}
 use borrow.Author.Needs.{needs}
 use Rattle.rules.proofs.plain.plain.Statement.{statement}
 use Rattle.rules.proofs.plain.plain.Tie as tie
-use Rattle.rules.proofs.plain.plain.Reads as reads
-use Rattle.rules.proofs.plain.plain.Lts as lts
-use Rattle.finishes.proofs.tokens.finish.Reads as finish-reads
-use Rattle.rules.proofs.plain.plain_kind.Reads as plain-kind-reads
-use Rattle.rules.proofs.plain.plain_payload.Reads as plain-payload-reads
 
 plain-kind-requires : tie.Need-plain-kind-requires
 plain-kind-requires c κs = search needs

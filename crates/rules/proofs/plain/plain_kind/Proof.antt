@@ -7,11 +7,6 @@ use native.Mathlib.Omega.{arith}
 use borrow.Author.Needs.{needs}
 use Rattle.rules.proofs.plain.plain_kind.Statement.{statement}
 use Rattle.rules.proofs.plain.plain_kind.Tie as tie
-use Rattle.rules.proofs.plain.plain_kind.Reads as reads
-use Rattle.rules.proofs.plain.plain_kind.Lts as lts
-use Rattle.entries.proofs.kind_at.Reads as kind-at-reads
-use Rattle.rules.proofs.table.kind_of.Reads as kind-of-reads
-use Rattle.words.proofs.early_kind.Reads as early-kind-reads
 
 early-kind-requires : tie.Need-early-kind-requires
 early-kind-requires c κs = early-word (c .before .pre) (c .match .keys1)

@@ -5,9 +5,6 @@ use native.Mathlib.Omega.{arith}
 use borrow.Author.Needs.{needs}
 use Rattle.rules.proofs.plain.plain_payload.Statement.{statement}
 use Rattle.rules.proofs.plain.plain_payload.Tie as tie
-use Rattle.rules.proofs.plain.plain_payload.Reads as reads
-use Rattle.rules.proofs.plain.plain_payload.Lts as lts
-use Rattle.described.proofs.span.Reads as span-reads
 
 cast-i : tie.Need-cast-i
 cast-i c = search needs

@@ -3,12 +3,6 @@ use Rattle.rules.proofs.ReadOn.{in-comment, comment-reads}
 use borrow.Author.Needs.{needs}
 use Rattle.rules.proofs.readers.comment_start.Statement.{statement}
 use Rattle.rules.proofs.readers.comment_start.Tie as tie
-use Rattle.rules.proofs.readers.comment_start.Reads as reads
-use Rattle.rules.proofs.readers.comment_start.Lts as lts
-use Rattle.comments.proofs.pieces.comment.Reads as comment-reads
-use Rattle.definition.proofs.State.advance.Reads as advance-reads
-use Rattle.definition.proofs.State.open_comment.Reads as open-comment-reads
-use Rattle.positions.proofs.pos_of.Reads as pos-of-reads
 
 pos-of-requires : tie.Need-pos-of-requires
 pos-of-requires c κs = search needs

@@ -4,11 +4,6 @@ use Rattle.rules.proofs.ReadOn.{before-blob, blob-reads}
 use borrow.Author.Needs.{needs}
 use Rattle.rules.proofs.readers.fenced.Statement.{statement}
 use Rattle.rules.proofs.readers.fenced.Tie as tie
-use Rattle.rules.proofs.readers.fenced.Reads as reads
-use Rattle.rules.proofs.readers.fenced.Lts as lts
-use Rattle.blobs.proofs.blob.Reads as blob-reads
-use Rattle.described.proofs.places.moved.Reads as moved-reads
-use Rattle.rules.proofs.readers.header_at.Reads as header-at-reads
 
 header-at-requires : tie.Need-header-at-requires
 header-at-requires c κs = search needs

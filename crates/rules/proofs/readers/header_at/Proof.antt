@@ -4,9 +4,6 @@ use Rattle.rules.proofs.ReadOn.{header-names}
 use borrow.Author.Needs.{needs}
 use Rattle.rules.proofs.readers.header_at.Statement.{statement}
 use Rattle.rules.proofs.readers.header_at.Tie as tie
-use Rattle.rules.proofs.readers.header_at.Reads as reads
-use Rattle.rules.proofs.readers.header_at.Lts as lts
-use Rattle.positions.proofs.pos_of.Reads as pos-of-reads
 
 pos-of-requires : tie.Need-pos-of-requires
 pos-of-requires c κs = search needs

@@ -4,11 +4,6 @@ use Rattle.rules.proofs.ReadOn.{before-blob, blob-reads}
 use borrow.Author.Needs.{needs}
 use Rattle.rules.proofs.readers.language.Statement.{statement}
 use Rattle.rules.proofs.readers.language.Tie as tie
-use Rattle.rules.proofs.readers.language.Reads as reads
-use Rattle.rules.proofs.readers.language.Lts as lts
-use Rattle.blobs.proofs.use_lang.Reads as use-lang-reads
-use Rattle.described.proofs.places.moved.Reads as moved-reads
-use Rattle.rules.proofs.readers.header_at.Reads as header-at-reads
 
 header-at-requires : tie.Need-header-at-requires
 header-at-requires c κs = search needs

@@ -3,11 +3,6 @@ use Rattle.rules.proofs.ReadOn.{before-literal, literal-reads}
 use borrow.Author.Needs.{needs}
 use Rattle.rules.proofs.readers.literal.Statement.{statement}
 use Rattle.rules.proofs.readers.literal.Tie as tie
-use Rattle.rules.proofs.readers.literal.Reads as reads
-use Rattle.rules.proofs.readers.literal.Lts as lts
-use Rattle.described.proofs.places.moved.Reads as moved-reads
-use Rattle.positions.proofs.pos_of.Reads as pos-of-reads
-use Rattle.strings.proofs.string_lit.Reads as string-lit-reads
 
 pos-of-requires : tie.Need-pos-of-requires
 pos-of-requires c κs = search needs

@@ -3,10 +3,6 @@ use Rattle.rules.proofs.ReadOn.{behind-slashes, slashes-read}
 use borrow.Author.Needs.{needs}
 use Rattle.rules.proofs.readers.slashes.Statement.{statement}
 use Rattle.rules.proofs.readers.slashes.Tie as tie
-use Rattle.rules.proofs.readers.slashes.Reads as reads
-use Rattle.rules.proofs.readers.slashes.Lts as lts
-use Rattle.comments.proofs.lines.line_comment.Reads as line-comment-reads
-use Rattle.definition.proofs.State.advance.Reads as advance-reads
 
 cast-line-comment : tie.Need-cast-line-comment
 cast-line-comment c = search needs

@@ -5,8 +5,6 @@ use Rattle.rules.specs.Plain.{place-kinds}
 use borrow.Author.Needs.{needs}
 use Rattle.rules.proofs.table.kind_of.Statement.{statement}
 use Rattle.rules.proofs.table.kind_of.Tie as tie
-use Rattle.rules.proofs.table.kind_of.Reads as reads
-use Rattle.rules.proofs.table.kind_of.Lts as lts
 
 mul-result : tie.Need-mul-result
 mul-result c = search needs

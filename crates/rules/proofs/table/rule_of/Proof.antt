@@ -4,8 +4,6 @@ use Rattle.rules.specs.Ruling.{rule-numbers}
 use borrow.Author.Needs.{needs}
 use Rattle.rules.proofs.table.rule_of.Statement.{statement}
 use Rattle.rules.proofs.table.rule_of.Tie as tie
-use Rattle.rules.proofs.table.rule_of.Reads as reads
-use Rattle.rules.proofs.table.rule_of.Lts as lts
 
 mul-result : tie.Need-mul-result
 mul-result c = search needs
