@@ -10,11 +10,11 @@ use scan::runs::plus_op_char;
 ghost use mathlib.Core.Path.{_≡_};
 ghost use mathlib.Core.List.{[]};
 ghost use Prim.Native.Nat.{_≤_, _<_};
-ghost use lib.ListN.{getD};
+ghost use lib.ListN.{length, getD};
 ghost use lib.Seq.{slice};
 ghost use Rattle.definition.specs.Chars.{ascii-table, op-char-cps, is-op-char};
 ghost use Rattle.definition.specs.Kinds.{kind};
-ghost use Rattle.definition.specs.Tables.{early-literals, kw-op-rules, op-tokens, mixfix-rules};
+ghost use Rattle.definition.specs.Tables.{cps, early-literals, kw-op-rules, op-tokens, mixfix-rules};
 ghost use Rattle.definition.specs.Matchers.{_then_, match-lit, plus};
 ghost use Rattle.definition.specs.Select.{none-at, keep, try-words};
 ghost use Rattle.definition.specs.Token.{entry};
@@ -359,6 +359,14 @@ pub fn kw_op(text: &[u8], table: &[bool; 128], i: usize) -> Choice
         end: end,
         word: word,
     }
+}
+
+// How long the word is.
+pub fn kw_op_length(word: usize) -> usize
+    requires { ⌜ word < 9 ⌝ }
+    ensures { λ r. ⌜ r ≡ length (cps (entry kw-op-rules word .0)) ⌝ }
+{
+    KW_OP_LENGTHS[word]
 }
 
 // The kind of the word by itself.

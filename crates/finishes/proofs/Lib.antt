@@ -1,0 +1,5 @@
+pub mod Parts
+pub mod Spanning
+pub mod Entries
+pub mod Cleaning
+pub mod Cutting

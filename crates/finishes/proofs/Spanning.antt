@@ -1,0 +1,99 @@
+-- What a token up to a choice's end asks for, and that a token or an error that is built from its positions is the definition's.
+-- Rests on the laws of where a reader stands.
+use Prim.Native.Nat.{ℕ, _≤_, _<_}
+use mathlib.Core.Path.{_≡_, refl, sym, subst}
+use mathlib.Core.List.{[]}
+use native.Mathlib.Omega.{arith}
+use lib.ListN.{length}
+use Rattle.definition.specs.Basics.{Bytes}
+use Rattle.definition.specs.Position.{one-each, pos-of, cur-pos}
+use Rattle.definition.specs.State.{advance}
+use Rattle.definition.specs.Item.{tok, lex-error}
+use Rattle.definition.specs.declared.Pos.{Pos}
+use Rattle.definition.specs.declared.State.{State}
+use Rattle.definition.specs.declared.Extra.{Extra}
+use Rattle.state.specs.Sound.{Stands}
+use Rattle.positions.specs.Columns.{Asked, located}
+use Rattle.positions.specs.declared.Located.{Located}
+use Rattle.positions.specs.declared.Cache.{Cache}
+use Rattle.soundness.proofs.Moving.{walk-stands, stands-within}
+use Rattle.described.specs.Described.{Sized, Describes, Known-at, Reads}
+use Rattle.described.specs.Standing.{Standing}
+use Rattle.described.specs.declared.Place.{Place}
+use Rattle.described.specs.declared.Payload.{Payload}
+use Rattle.described.specs.declared.Payload.the-variants.{Part}
+use Rattle.described.specs.declared.Read.{Read}
+use Rattle.described.proofs.Standing.{asks, known-asked, known-kept, position-kept}
+use Rattle.finishes.specs.Finishing.{spanned, Chose, Spans}
+
+-- a reader that asked for the position of an offset of its line stands where it stood
+pub asked-stands : {s : Bytes} {st : State} {known : Cache} {i : ℕ} (there : Located) → Standing s st known → st .bol ≤ i → there ≡ located s st i → Standing s st (there .known)
+asked-stands {s} {st} {known} {i} there h l q = rw q (record { stands = h .stands; cached = known-asked h i l })
+
+-- nothing is described by the part from 0 to 0
+pub nothing-describes : (s name f : Bytes) → Describes s name f (Part 0 0) []
+nothing-describes s name f = record { is = refl; long = refl; inside = omega arith }
+
+pub nothing-sized : {name : Bytes} → Sized name (Part 0 0)
+nothing-sized = record { listed = tt; small = omega arith }
+
+module _ {s : Bytes} {at : Place} {e : ℕ} (h : Chose s at e) where
+  -- behind the choice reading stands
+  pub behind : Stands s (advance (at .st) e)
+  behind = walk-stands (h .standing .stands) (h .onward .walk)
+
+  -- on the same line
+  pub same-line : at .st .bol ≤ e
+  same-line = omega (arith, h .standing .stands .sound .order, h .onward .past)
+
+  -- a part of the text is not too long
+  pub part-sized : {name : Bytes} {i j : ℕ} → j ≤ length s → Sized name (Part i j)
+  part-sized l = record { listed = tt; small = omega (arith, h .standing .stands .short) }
+
+  -- a token may end wherever reading stands
+  pub spans-to : {name : Bytes} {j : ℕ} {p : Payload} → Stands s (advance (at .st) j) → Sized name p → Spans s name at (at .st .offset) j p
+  spans-to n z = record {
+    standing = h .standing;
+    from = h .standing .stands .sound .order;
+    within = stands-within (h .standing .stands);
+    next = n;
+    sized = z;
+  }
+
+  -- so at the choice's end
+  pub spans : {name : Bytes} {p : Payload} → Sized name p → Spans s name at (at .st .offset) e p
+  spans z = spans-to behind z
+
+  -- the positions of the choice's ends are asked for one behind the other
+  pub end-asked : (start : Located) → start ≡ located s (at .st) (at .st .offset) → Asked one-each s (at .st) (start .known) e
+  end-asked start q = asks (asked-stands start (h .standing) (h .standing .stands .sound .order) q) e same-line (h .onward .within)
+
+  -- an error over the choice has them as its range
+  pub over-reads : {name f bytes : Bytes} {number : ℕ} {r : Read} (start end : Located) → start ≡ located s (at .st) (at .st .offset) → end ≡ located s (at .st) e
+      → Reads s name f (lex-error s (at .st) number bytes (start .pos) (end .pos)) r
+      → Reads s name f (lex-error s (at .st) number bytes (cur-pos s (at .st)) (pos-of s (at .st) e)) r
+  over-reads start end p q built = rw (p, q) at built
+
+module _ {s name : Bytes} {at : Place} {i e : ℕ} {p : Payload} (h : Spans s name at i e p) where
+  -- no offset of a text is too large
+  pub end-small : e < 4294967296
+  end-small =
+      let w : e ≤ length s = stands-within (h .next) in
+      omega (arith, h .next .short)
+
+  -- the end's position is asked for behind the start's
+  pub span-asked : (start : Located) → start ≡ located s (at .st) i → Asked one-each s (at .st) (start .known) e
+  span-asked start q = asks (asked-stands start (h .standing) (h .from) q) e (h .next .sound .order) (stands-within (h .next))
+
+  -- the token has both
+  pub span-reads : {f bytes : Bytes} {k : ℕ} {extra : Extra} {r : Read} (start end : Located) (next : State)
+      → start ≡ located s (at .st) i → end ≡ located s (at .st) e → next ≡ advance (at .st) e
+      → (Known-at s next (end .known) → Reads s name f (tok k bytes (start .pos) (end .pos) extra next) r)
+      → Reads s name f (spanned s (at .st) i e k bytes extra) r
+  span-reads {f} {bytes} {k} {extra} {r} start end next a b c build =
+      let st = at .st in
+      let known : Known-at s (advance st e) (located s st e .known) =
+      known-kept st (advance st e) refl refl (known-asked (h .standing) e (h .next .sound .order)) in
+      let built = rw (a, b, c) at build in
+      subst (λ (pos : Pos). Reads s name f (tok k bytes (pos-of s st i) pos extra (advance st e)) r)
+      (sym (position-kept s st (advance st e) e refl refl refl)) (built known)

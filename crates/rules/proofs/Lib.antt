@@ -1,0 +1,5 @@
+pub mod Tabling
+pub mod Keys
+pub mod RuleLaws
+pub mod PlainLaws
+pub mod ReadOn

@@ -1,0 +1,131 @@
+-- What is done with a choice is what its place's rule does, and what that asks for holds. Rests on the laws of choices and of sound
+-- states; that the table of rules is the definition's is computed.
+use Prim.Native.Nat.{ℕ, zero, suc, _+_, _-_, _<_}
+use native.Mathlib.Omega.{arith}
+use mathlib.Core.Path.{_≡_, refl, sym, ap, subst, _∙_}
+use mathlib.Core.Bool.{Bool, true, false, not, _&&_, _||_, false≢true}
+use mathlib.Core.List.{List, [], _∷_, map}
+use lib.Dec.{eqb}
+use lib.ListN.{getD, List·getD-map}
+use borrow.Author.Tests.{eqb-true, eqb-false, eq-eqb, ne-eqb}
+use Rattle.definition.specs.Basics.{Bytes}
+use Rattle.definition.specs.Chars.{count-up}
+use Rattle.definition.specs.State.{advance, new-line}
+use Rattle.definition.specs.Token.{Token-turn, Rule, rules, any, act}
+use Rattle.definition.specs.declared.Choice.{Choice}
+use Rattle.definition.specs.declared.State.{State}
+use Rattle.lemmas.proofs.Cases.{by-test, both, either}
+use Rattle.progress.proofs.Choices.{Fits, select-fits}
+use Rattle.described.specs.Described.{Known-at, Turns}
+use Rattle.described.specs.Places.{moved, next-line}
+use Rattle.described.specs.declared.Place.{Place}
+use Rattle.described.specs.declared.Turned.{Turned}
+use Rattle.described.proofs.Standing.{known-kept, known-line}
+use Rattle.soundness.proofs.Moving.{stands-within}
+use Rattle.finishes.specs.Finishing.{Chose}
+use Rattle.rules.specs.Keys.{Missing}
+use Rattle.rules.specs.Plain.{place-kinds}
+use Rattle.rules.specs.Ruling.{rule-numbers, rule-of, rule-list, does}
+use Rattle.rules.specs.Tabled.{table-size, Tabled}
+use Rattle.rules.specs.Acting.{Acts}
+use Rattle.rules.proofs.Keys.{missing}
+use Rattle.rules.proofs.Tabling.{select-tabled}
+
+-- what counts up from n has n + k at k
+counted : (n m k d : ℕ) → k < m → getD (count-up n m) k d ≡ n + k
+unfolding count-up
+counted n zero k d h = absurd (omega arith)
+counted n (suc m) zero d h = omega arith
+counted n (suc m) (suc k) d h = let q = counted (suc n) m k d (omega arith) in omega (arith, q)
+
+module _ (s name f : Bytes) (st : State) where
+  -- the rules of all places, by their numbers
+  rules-are : (e w : ℕ) → map (λ (r : Rule). r st e w) (rules s name f) ≡ map (λ (k : ℕ). does s name f (rule-of k) st k e w) (count-up 1 50)
+  unfolding rules rule-numbers place-kinds count-up
+  rules-are e w = refl
+
+  -- what is done with a choice
+  act-is : (c : Choice) → c .place < 51 → act s name f st c ≡ does s name f (rule-of (c .place)) st (c .place) (c .end) (c .word)
+  unfolding act rule-numbers
+  act-is c h =
+      by-test (λ (t : Token-turn). t ≡ by (c .place)) (eqb (c .place) 0)
+      (λ t. sym (ap by (eqb-true (c .place) 0 t)))
+      (λ t.
+      let n : c .place ≡ 0 → ⊥ = eqb-false (c .place) 0 t in
+      let j = c .place - 1 in
+      let q : 1 + j ≡ c .place = omega arith in
+      sym (List·getD-map (λ (r : Rule). r st (c .end) (c .word)) (rules s name f) j (λ st e w. any s st))
+      ∙ ap (λ (l : List Token-turn). getD l j (any s st)) (rules-are (c .end) (c .word))
+      ∙ List·getD-map by (count-up 1 50) j 0
+      ∙ ap by (counted 1 50 j 0 (omega arith) ∙ q))
+    where
+      by : ℕ → Token-turn
+      by k = does s name f (rule-of k) st k (c .end) (c .word)
+
+module _ {s name f : Bytes} {at : Place} {c : Choice} (h : Acts s name f at c) where
+  -- the choice is one of the places, with a word of its table
+  pub tabled : Tabled c
+  tabled = subst Tabled (sym (h .chosen)) (select-tabled (at .st .offset) s f)
+
+  fits : Fits s (at .st .offset) c
+  fits = subst (Fits s (at .st .offset)) (sym (h .chosen)) (select-fits s (at .st .offset) f)
+
+  module _ {n r : ℕ} (q : n ≡ rule-of (c .place)) (p : n ≡ r) where
+    -- unless it is none it ends behind where the reader stands
+    pub chose : eqb r 0 ≡ false → Chose s at (c .end)
+    unfolding rule-numbers
+    chose z =
+        let some : eqb (c .place) 0 ≡ false = ne-eqb (c .place) 0 (λ o. eqb-false r 0 z (sym p ∙ q ∙ ap rule-of o)) in
+        record { standing = h .standing; between = h .between; onward = fits .chosen some .onward }
+
+    -- what its rule does is done
+    pub by-rule : (t : Turned) → Turns s name f (does s name f r (at .st) (c .place) (c .end) (c .word)) t → Turns s name f (act s name f (at .st) c) t
+    by-rule t d =
+        subst (λ (x : Token-turn). Turns s name f x t)
+        (ap (λ (m : ℕ). does s name f m (at .st) (c .place) (c .end) (c .word)) (sym p ∙ q) ∙ sym (act-is s name f (at .st) c (tabled .place))) d
+
+  -- and without a rule nothing is expected
+  pub without-rule : {n : ℕ} (t : Turned) → n ≡ rule-of (c .place) → Missing (rule-list s name f (at .st) (c .place) (c .end) (c .word)) n
+      → Turns s name f (any s (at .st)) t → Turns s name f (act s name f (at .st) c) t
+  without-rule {n} t q m d =
+      by-rule q refl t (subst (λ (x : Token-turn). Turns s name f x t) (sym (missing n (rule-list s name f (at .st) (c .place) (c .end) (c .word)) (any s (at .st)) m)) d)
+
+-- ---- words of keyword operators
+
+-- only the entry numbered k of a list whose first is numbered n is r
+abbrev only : ℕ → ℕ → ℕ → List ℕ → Bool
+only r k n [] = true
+only r k n (x ∷ l) = (not (eqb x r) || eqb n k) && only r k (suc n) l
+
+only-at : (r k n : ℕ) (l : List ℕ) → only r k n l ≡ true → eqb 0 r ≡ false → (j : ℕ) → getD l j 0 ≡ r → n + j ≡ k
+only-at r k n [] t z j q = absurd (eqb-false 0 r z q)
+only-at r k n (x ∷ l) t z zero q =
+    let h = both (not (eqb x r) || eqb n k) (only r k (suc n) l) t .0 in
+    either (not (eqb x r)) (eqb n k) (λ a. absurd (false≢true (sym (ap not (eq-eqb x r q)) ∙ a))) (λ a. let e = eqb-true n k a in omega (arith, e)) h
+only-at r k n (x ∷ l) t z (suc j) q =
+    let e = only-at r k (suc n) l (both (not (eqb x r) || eqb n k) (only r k (suc n) l) t .1) z j q in
+    omega (arith, e)
+
+-- rule 7 is that of place 12
+pub keyword-word : {n : ℕ} {c : Choice} → Tabled c → n ≡ rule-of (c .place) → n ≡ 7 → c .word < 9
+unfolding table-size rule-numbers
+keyword-word {n} {c} h q p =
+    let e = only-at 7 12 0 rule-numbers refl refl (c .place) (sym q ∙ p) in
+    let k : c .place ≡ 12 = omega (arith, e) in
+    subst (λ (k : ℕ). c .word < table-size k) k (h .word)
+
+-- ---- what is passed
+
+module _ {s : Bytes} {at : Place} {e : ℕ} (h : Chose s at e) where
+  pub end-fits : e < 4294967296
+  end-fits = omega (arith, h .onward .within, h .standing .stands .short)
+
+  pub line-fits : at .st .line < 4294967295
+  line-fits = omega (arith, h .standing .stands .sound .line, stands-within (h .standing .stands), h .standing .stands .short)
+
+  -- on the same line, and to the next
+  pub moved-turns : {p : Place} → p ≡ moved at e → (p .st ≡ advance (at .st) e) × Known-at s (advance (at .st) e) (p .known)
+  moved-turns q = rw q (refl, known-kept (at .st) (advance (at .st) e) refl refl (h .standing .cached))
+
+  pub line-turns : {p : Place} → p ≡ next-line at e → (p .st ≡ new-line (advance (at .st) e)) × Known-at s (new-line (advance (at .st) e)) (p .known)
+  line-turns q = rw q (refl, known-line s (at .st) e)

@@ -1,0 +1,25 @@
+-- The comment's text begins with the slashes.
+use Rattle.rules.proofs.ReadOn.{behind-slashes, slashes-read}
+use borrow.Author.Needs.{needs}
+use Rattle.rules.proofs.readers.slashes.Statement.{statement}
+use Rattle.rules.proofs.readers.slashes.Tie as tie
+
+cast-line-comment : tie.Need-cast-line-comment
+cast-line-comment c = search needs
+
+cast-advance : tie.Need-cast-advance
+cast-advance c = search needs
+
+advance-requires : tie.Need-advance-requires
+advance-requires c κs = search needs
+
+line-comment-requires : tie.Need-line-comment-requires
+line-comment-requires c κs = behind-slashes (c .before .before .before .before .before .pre) (c .advance .ensures)
+
+returns : tie.Need-returns
+returns c = slashes-read (c .before .before .before .before .before .before .pre) (c .before .advance .ensures) (c .line-comment .ensures)
+
+pub slashes-spec : {M : Type 1} → statement M
+slashes-spec =
+    tie.close
+    (tie.spec cast-line-comment cast-advance advance-requires line-comment-requires returns)

@@ -1,0 +1,27 @@
+-- What is asked where a choice is acted on. s is the text, name the file's name, f the class file, at the place where the reader
+-- stands, c the choice.
+use Prim.Native.Nat.{ℕ, _≤_, _<_}
+use mathlib.Core.Path.{_≡_}
+use lib.ListN.{length}
+use Rattle.definition.specs.Basics.{Bytes}
+use Rattle.definition.specs.ClassFile.{class-check}
+use Rattle.definition.specs.Select.{select}
+use Rattle.definition.specs.Blob as source
+use Rattle.definition.specs.declared.Choice.{Choice}
+use Rattle.described.specs.Standing.{Standing}
+use Rattle.described.specs.declared.Place.{Place}
+use Rattle.blobs.specs.Contents.{header-of}
+use Rattle.blobs.specs.declared.Header.{Header}
+
+pub record Acts (s name f : Bytes) (at : Place) (c : Choice) : Type 0 where
+  pub standing : Standing s (at .st) (at .known)
+  pub between : at .st .mode ≡ 0
+  pub before : at .st .offset < length s
+  pub chosen : c ≡ select s f (at .st .offset)
+  pub accepted : class-check f ≡ 0
+  pub named : length name ≤ 4096
+
+-- r is the definition's header h, and the name in it ends at e
+pub record Names (s : Bytes) (h : source.Header) (e : ℕ) (r : Header) : Type 0 where
+  pub is : header-of s r ≡ h
+  pub ends : r .to ≡ e

@@ -1,0 +1,5 @@
+pub mod Keys
+pub mod Plain
+pub mod Tabled
+pub mod Ruling
+pub mod Acting

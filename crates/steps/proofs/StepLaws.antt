@@ -1,0 +1,117 @@
+-- A turn of `next-token`, its loop, and a step. Rests on the laws of progress and of sound states.
+use Prim.Native.Nat.{_-_, _≤_, _<_}
+use native.Mathlib.Omega.{arith}
+use mathlib.Core.Path.{_≡_, refl, sym, subst, _∙_}
+use mathlib.Core.Bool.{Bool}
+use mathlib.Core.List.{List, []}
+use lib.ListN.{length}
+use borrow.Author.Tests.{le-leb, lt-leb, eq-eqb, ne-eqb}
+use Rattle.definition.specs.Basics.{Bytes}
+use Rattle.definition.specs.Kinds.{kind}
+use Rattle.definition.specs.Select.{select}
+use Rattle.definition.specs.State.{ended}
+use Rattle.definition.specs.Item.{Step, tok}
+use Rattle.definition.specs.Comment.{comment}
+use Rattle.definition.specs.Token.{act, token-turn, next-token, step}
+use Rattle.definition.specs.declared.Choice.{Choice}
+use Rattle.definition.specs.declared.State.{State}
+use Rattle.definition.specs.declared.Extra.the-variants.{NoExtra}
+use Rattle.lemmas.proofs.Loops.{Leads, Any, leads-map, leads-both}
+use Rattle.state.specs.Sound.{Stands}
+use Rattle.positions.specs.Columns.{located}
+use Rattle.positions.specs.declared.Located.{Located}
+use Rattle.progress.proofs.Walks.{rest}
+use Rattle.progress.proofs.Tokens.{token-falls, token-unroll}
+use Rattle.soundness.proofs.Steps.{token-turn-stands}
+use Rattle.described.specs.Described.{Describes, Known-at, Reads, Turns}
+use Rattle.described.specs.Standing.{Standing}
+use Rattle.described.specs.declared.Place.{Place}
+use Rattle.described.specs.declared.Payload.the-variants.{Part}
+use Rattle.described.specs.declared.Read.{Read}
+use Rattle.described.specs.declared.Turned.{Turned}
+use Rattle.described.specs.declared.Turned.the-variants.{Done, Again}
+use Rattle.described.proofs.Standing.{known-asked, known-kept}
+use Rattle.described.proofs.Turning.{turned-done, turned-again}
+use Rattle.comments.specs.Contracts.{ReadsAny}
+use Rattle.steps.specs.Ready.{eof, ReadsEach, Ready}
+
+-- ---- the text's end
+
+pub eof-reads : {s name : Bytes} {at : Place} {here : Located} {next : State} {r : Read}
+    → Standing s (at .st) (at .known) → here ≡ located s (at .st) (at .st .offset) → next ≡ ended (at .st)
+    → ((f bytes : Bytes) → Describes s name f (Part 0 0) bytes → Known-at s next (here .known) → Reads s name f (tok (kind "EOF") bytes (here .pos) (here .pos) NoExtra next) r)
+    → ReadsEach s name (eof s (at .st)) r
+eof-reads {s} {name} {at} {here} {next} {r} h p q build f =
+    let known : Known-at s (ended (at .st)) (located s (at .st) (at .st .offset) .known) =
+    known-kept (at .st) (ended (at .st)) refl refl (known-asked h (at .st .offset) (h .stands .sound .order)) in
+    let built = rw (p, q) at build in
+    built f [] (record { is = refl; long = refl; inside = omega arith }) known
+
+-- ---- a turn
+
+module _ (s name f : Bytes) (st : State) where
+  -- the text's end, and a choice before it
+  pub turn-ends : (r : Read) → length s ≤ st .offset → Reads s name f (eof s st) r → Turns s name f (token-turn s name f st) (Done r)
+  unfolding token-turn
+  turn-ends r h d = rw (token-turn, le-leb _ _ h) d
+
+  pub turn-acts : (c : Choice) (t : Turned) → st .offset < length s → c ≡ select s f (st .offset) → Turns s name f (act s name f st c) t → Turns s name f (token-turn s name f st) t
+  unfolding token-turn
+  turn-acts c t h q d = rw (token-turn, lt-leb _ _ h, ← q) d
+
+-- ---- a step
+
+module _ (s name f : Bytes) (st : State) (r : Read) where
+  -- in a comment, and between comments
+  pub step-comment : st .mode ≡ 1 → ReadsAny s (comment s (st .offset) st) r → Reads s name f (step s name f st) r
+  unfolding step
+  step-comment q d = rw (step, eq-eqb _ _ q) (d name f)
+
+  pub step-token : (st .mode ≡ 1 → ⊥) → Reads s name f (next-token s name f st) r → Reads s name f (step s name f st) r
+  unfolding step
+  step-token n d = rw (step, ne-eqb _ _ n) d
+
+-- ---- the loop
+
+-- the reader stands ready, and what is still to be read gives what the whole gives
+pub record Reading (s name f : Bytes) (ops symbols : List Bool) (first here : Place) : Type 0 where
+  pub ready : Ready s name f ops symbols here
+  pub same : next-token s name f (here .st) ≡ next-token s name f (first .st)
+
+pub reading-starts : {s name f : Bytes} {ops symbols : List Bool} {at : Place} → Ready s name f ops symbols at → Reading s name f ops symbols at at
+reading-starts h = record { ready = h; same = refl }
+
+-- a turn stands where it goes on, and has read something
+turn-leads : (s name f : Bytes) (st : State) → Stands s st → st .mode ≡ 0
+    → Leads (λ b. (Stands s b × (b .mode ≡ 0)) × (rest s (b .offset) < rest s (st .offset))) Any (token-turn s name f st)
+turn-leads s name f st h m =
+    leads-both (λ b. Stands s b × (b .mode ≡ 0)) (λ b. rest s (b .offset) < rest s (st .offset)) (λ t. Stands s (t .next)) Any
+    (token-turn s name f st) (token-turn-stands s name f st h m)
+    (leads-map (λ b l. l .1) (λ t _. tt) (token-turn s name f st) (token-falls s name f .at st tt))
+
+module _ {s name f : Bytes} {ops symbols : List Bool} {first here : Place} (k : Reading s name f ops symbols first here) where
+  -- what a turn has read is the whole
+  pub reading-ends : (r : Read) → Turns s name f (token-turn s name f (here .st)) (Done r) → Reads s name f (next-token s name f (first .st)) r
+  reading-ends r t =
+      subst (λ (x : Step). Reads s name f x r) (sym (token-unroll s name f (here .st)) ∙ k .same)
+      (turned-done s name f (token-turn s name f (here .st)) (next-token s name f) r t)
+
+  -- a turn that goes on stands ready again
+  pub reading-goes-on : (p : Place) → Turns s name f (token-turn s name f (here .st)) (Again p)
+      → Reading s name f ops symbols first p × (length s - p .st .offset < length s - here .st .offset)
+  reading-goes-on p t =
+      let g = turned-again s name f (λ b. (Stands s b × (b .mode ≡ 0)) × (rest s (b .offset) < rest s (here .st .offset))) Any
+      (token-turn s name f (here .st)) (next-token s name f) p
+      (turn-leads s name f (here .st) (k .ready .standing .stands) (k .ready .between)) t in
+      let less : rest s (p .st .offset) < rest s (here .st .offset) = g .holds .1 in (
+        record {
+          ready = record {
+            standing = record { stands = g .holds .0 .0; cached = g .known };
+            between = g .holds .0 .1;
+            lent = k .ready .lent;
+            named = k .ready .named;
+          };
+          same = sym (g .same) ∙ sym (token-unroll s name f (here .st)) ∙ k .same;
+        },
+        less,
+      )

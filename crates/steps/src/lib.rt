@@ -1,0 +1,113 @@
+// A step of the lexer: the next item from a state, with the state behind it.
+//
+// Proved: `step` reads what the definition's `step` gives, and `next_token` what its `next-token` gives: item, payload and
+// state, and a column that is known behind it.
+// Assumed: nothing but what each function's `requires` says: a reader stands in a sound state of a legal text and hasn't
+// ended, the class file is accepted, the tables of operator and of symbol characters are lent, and the name is short enough.
+use comments::pieces::comment;
+use definition::Extra;
+use definition::State;
+use described::Payload;
+use described::Place;
+use described::Read;
+use described::Turned;
+use described::tokens::ended;
+use described::tokens::token;
+use positions::Cache;
+use positions::pos_of;
+use rules::act;
+use select::select;
+ghost use mathlib.Core.Path.{_≡_};
+ghost use Rattle.definition.specs.Token.{token-turn, next-token, step};
+ghost use Rattle.described.specs.Described.{Reads, Turns};
+ghost use Rattle.described.specs.Standing.{Standing};
+ghost use Rattle.steps.specs.Ready.{eof, ReadsEach, Ready, Open};
+
+const EOF: u32 = 165;
+
+// The token at the text's end.
+fn end_of_text(text: &[u8], name: &[u8], at: Place) -> Read
+    requires { ⌜ Standing (now text) (at .st) (at .known) ⌝ }
+    ensures { λ r. ⌜ ReadsEach (now (text .entry)) (now (name .entry)) (eof (now (text .entry)) (at .st)) r ⌝ }
+{
+    let st = at.st;
+    let known = at.known;
+    let here = pos_of(text, st, known, st.offset);
+    let nothing = Payload::Part { from: 0, to: 0 };
+    token(
+        name,
+        EOF,
+        nothing,
+        here.pos,
+        here.pos,
+        Extra::NoExtra,
+        ended(st),
+        here.known,
+    )
+}
+
+// One call of the source's `next_token`.
+pub fn token_turn(
+    text: &[u8],
+    name: &[u8],
+    classes: &[u8],
+    ops: &[bool; 128],
+    symbols: &[bool; 128],
+    at: Place,
+) -> Turned
+    requires { ⌜ Ready (now text) (now name) (now classes) (now ops) (now symbols) at ⌝ }
+    ensures { λ r. ⌜ Turns (now (text .entry)) (now (name .entry)) (now (classes .entry)) (token-turn (now (text .entry)) (now (name .entry)) (now (classes .entry)) (at .st)) r ⌝ }
+{
+    let st = at.st;
+    let i = st.offset as usize;
+    if text.len() <= i {
+        return Turned::Done(end_of_text(text, name, at));
+    }
+    let choice = select(text, classes, ops, symbols, i);
+    act(text, name, classes, at, choice)
+}
+
+// The source's `next_token`: the next item between comments.
+pub fn next_token(
+    text: &[u8],
+    name: &[u8],
+    classes: &[u8],
+    ops: &[bool; 128],
+    symbols: &[bool; 128],
+    at: Place,
+) -> Read
+    requires { ⌜ Ready (now text) (now name) (now classes) (now ops) (now symbols) at ⌝ }
+    ensures { λ r. ⌜ Reads (now (text .entry)) (now (name .entry)) (now (classes .entry)) (next-token (now (text .entry)) (now (name .entry)) (now (classes .entry)) (at .st)) r ⌝ }
+{
+    let mut here = at;
+    loop {
+        match token_turn(text, name, classes, ops, symbols, here) {
+            Turned::Done(r) => {
+                return r;
+            }
+            Turned::Again(next) => {
+                here = next;
+            }
+        }
+    }
+}
+
+// The next item. In mode 1 it is the next piece of the comment that is open.
+pub fn step(
+    text: &[u8],
+    name: &[u8],
+    classes: &[u8],
+    ops: &[bool; 128],
+    symbols: &[bool; 128],
+    at: Place,
+) -> Read
+    requires { ⌜ Open (now text) (now name) (now classes) (now ops) (now symbols) at ⌝ }
+    ensures { λ r. ⌜ Reads (now (text .entry)) (now (name .entry)) (now (classes .entry)) (step (now (text .entry)) (now (name .entry)) (now (classes .entry)) (at .st)) r ⌝ }
+{
+    let st = at.st;
+    let known = at.known;
+    if st.mode == 1 {
+        return comment(text, st.offset as usize, st, known);
+    }
+    next_token(text, name, classes, ops, symbols, at)
+}
