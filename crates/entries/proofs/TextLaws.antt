@@ -1,12 +1,16 @@
 -- Texts one behind the other: what stands behind a text's start is the text. Rests on the laws of lists.
 use Prim.Native.Nat.{ℕ, zero, suc, _+_, _≤_, _<_}
 use mathlib.Core.Path.{_≡_, refl, sym, ap, _∙_}
+use mathlib.Core.Bool.{Bool, true, _&&_}
 use mathlib.Core.List.{List, [], _∷_, _++_, append-assoc, map}
 use native.Mathlib.Nat.{not-suc-le-zero}
 use native.Mathlib.Omega.{arith}
 use lib.ListN.{length, getD, length-append, List·getD-append}
+use lib.Dec.{leb}
 use lib.Seq.{getD-append-add}
+use borrow.Author.Tests.{leb-true}
 use Rattle.definition.specs.Basics.{Bytes}
+use Rattle.lemmas.proofs.Cases.{both}
 
 -- the length at k is that of text k
 pub length-at : (ts : List Bytes) (k : ℕ) → getD (map length ts) k 0 ≡ length (getD ts k [])
@@ -38,3 +42,13 @@ text-at (t ∷ ts) b (suc k) j h =
     ap (λ (l : Bytes). getD l (getD (starts (length b + length t) ts) k 0 + j) 0) (sym (append-assoc b t (joined ts)))
     ∙ ap (λ (n : ℕ). getD ((b ++ t) ++ joined ts) (getD (starts n ts) k 0 + j) 0) (sym (length-append b t))
     ∙ r
+
+-- no text is long
+abbrev pub all-short : List Bytes → Bool
+all-short [] = true
+all-short (t ∷ ts) = leb (length t) 7 && all-short ts
+
+pub short-at : (ts : List Bytes) → all-short ts ≡ true → (k : ℕ) → length (getD ts k []) ≤ 7
+short-at [] e k = omega arith
+short-at (t ∷ ts) e zero = leb-true (length t) 7 (both (leb (length t) 7) (all-short ts) e .0)
+short-at (t ∷ ts) e (suc k) = short-at ts (both (leb (length t) 7) (all-short ts) e .1) k

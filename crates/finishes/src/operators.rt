@@ -55,11 +55,10 @@ pub fn op(text: &[u8], name: &[u8], at: Place, e: usize, kind: u32) -> Read
     ensures { λ r. ⌜ DoesOf (now (text .entry)) (now (name .entry)) kind (op (now (text .entry)) (at .st) e) r ⌝ }
 {
     let st = at.st;
-    let known = at.known;
     let i = st.offset as usize;
     let to = no_comment(text, i, e);
     if to == i {
-        return line_comment(text, i, st, known);
+        return line_comment(text, i, at);
     }
     let lexeme = Payload::Part { from: i, to: to };
     finish(text, name, at, to, kind, lexeme, Extra::NoExtra)

@@ -4,21 +4,22 @@ use Prim.Native.Nat.{ℕ, _+_, _-_, _*_, _≤_, _<_}
 use mathlib.Core.Path.{_≡_, refl, sym, ap, subst, _∙_}
 use mathlib.Core.Bool.{true, false}
 use mathlib.Core.List.{List}
+use native.Mathlib.Omega.{arith}
 use borrow.Author.Tests.{lt-ltb, le-ltb, eq-eqb, ne-eqb}
-use borrow.Rule.Slice.PartMut.{midOf, putMid}
 use lib.ListN.{length}
 use Rattle.definition.specs.Basics.{Bytes, again, done}
 use Rattle.definition.specs.Item.{Step, record-size, words}
 use Rattle.definition.specs.Token.{step}
 use Rattle.definition.specs.Run.{put, Writing, stopped, written, run-turn}
 use Rattle.definition.specs.declared.State.{State}
-use Rattle.lemmas.specs.Over.{over}
-use Rattle.lemmas.proofs.Tails.{tail-back}
 use Rattle.described.specs.declared.Place.{Place}
 use Rattle.described.specs.declared.Read.{Read}
-use Rattle.described.specs.Described.{bytes-of, length-of, Reads, Known-at}
-use Rattle.lexer.specs.declared.Went.the-variants.{Stop, Wrote}
-use Rattle.lexer.specs.Running.{writing, Ran}
+use Rattle.described.specs.declared.Payload.{Payload}
+use Rattle.described.specs.declared.Payload.the-variants.{Part, Text, Greater, Name, Line, FileLine, Literal, Piece, Blob}
+use Rattle.described.specs.Described.{bytes-of, length-of, Listed, Inside, Measurable, Reads, Known-at}
+use Rattle.soundness.proofs.Payloads.{payload-bound, budget-small}
+use Rattle.lexer.specs.declared.Went.the-variants.{Wrote}
+use Rattle.lexer.specs.Running.{writing, Ran, Between, ItemFits}
 
 module _ (s name f : Bytes) (a : Writing) where
   -- the reading has ended
@@ -58,9 +59,6 @@ module _ (s name f : Bytes) (a : Writing) where
 -- ---- what the code's turn did
 
 module _ (s name f : Bytes) (at : Place) (count used : ℕ) (rs : List ℕ) (ps : Bytes) where
-  abbrev a : Writing
-  a = writing at count used rs ps
-
   -- what a step's payload measures
   size-is : (r : Read) (n : ℕ) → Reads s name f (step s name f (at .st)) r → n ≡ length-of name (r .payload) → length (step s name f (at .st) .payload) ≡ n
   size-is r n h e = sym (e ∙ h .payload .long)
@@ -79,3 +77,41 @@ module _ (s name f : Bytes) (at : Place) (count used : ℕ) (rs : List ℕ) (ps 
           w ∙ rw (p, q, z, h .next, h .item, h .payload .is) refl,
           subst (λ (st : State). Known-at s st (r .known)) (sym (h .next)) (h .known),
         )
+
+-- ---- what the code's turn asks for
+
+-- a text of the table is one of it
+inside-listed : (s : Bytes) (p : Payload) → Inside s p → Listed p
+inside-listed s (Part from to) h = tt
+inside-listed s (Text k) h = h
+inside-listed s (Greater from to) h = tt
+inside-listed s Name h = tt
+inside-listed s (Line n) h = tt
+inside-listed s (FileLine n) h = tt
+inside-listed s (Literal from n) h = tt
+inside-listed s (Piece from to width n) h = tt
+inside-listed s (Blob from to contents end) h = tt
+
+module _ {s name f : Bytes} {at : Place} {count used : ℕ} {rs : List ℕ} {ps : Bytes} {r : Read} (b : Between s name f at count used rs ps)
+    (awake : at .st .mode ≡ 2 → ⊥) (h : Reads s name f (step s name f (at .st)) r) where
+  -- a payload's length is a number of the machine's
+  pub size-small : length-of name (r .payload) ≤ 421527552
+  size-small =
+      omega (arith, h .payload .long, payload-bound s name f (b .named) (at .st) (b .kept .stands) awake, budget-small s (at .st) (b .kept .stands))
+
+  pub measurable : Measurable name (r .payload)
+  measurable = record { listed = inside-listed s (r .payload) (h .payload .inside); small = omega (arith, size-small) }
+
+  -- an item for which there is room fits
+  pub item-fits : {n : ℕ} → record-size ≤ length rs - record-size * count → n ≡ length-of name (r .payload) → n ≤ length ps - used
+      → ItemFits s name f r (record-size * count) used rs ps
+  item-fits {n} room e fits = record {
+    accepted = b .accepted;
+    long = h .payload .long ∙ ap length (sym (h .payload .is));
+    inside = h .payload .inside;
+    begun = b .kept .begun;
+    record-room = room;
+    filled = b .kept .filled;
+    payload-room = rw (← e) fits;
+    small = omega (arith, b .kept .spent);
+  }

@@ -22,7 +22,7 @@ use Rattle.described.specs.Standing.{Standing}
 use Rattle.described.specs.Places.{moved}
 use Rattle.described.specs.declared.Place.{Place}
 use Rattle.described.specs.declared.Read.{Read}
-use Rattle.described.proofs.Standing.{known-asked, known-kept}
+use Rattle.described.proofs.Standing.{known-kept}
 use Rattle.comments.specs.Contracts.{InComment, Behind, ReadsAny}
 use Rattle.strings.specs.Contracts.{Reader}
 use Rattle.blobs.specs.Contents.{header-of, InBlob}
@@ -43,13 +43,13 @@ module _ {s : Bytes} {at : Place} {e : ℕ} (h : Chose s at e) where
     opened = o ∙ ap (λ (b : State). open-comment b (here .pos)) q ∙ ap (λ (l : Located). open-comment (advance (at .st) e) (l .pos)) p
 
     -- the comment is read from its opening on
-    pub in-comment : InComment s inside (here .known)
+    pub in-comment : InComment s (record { st = inside; known = at .known })
     in-comment =
-        rw (opened, p)
+        rw opened
         (record {
           standing = record {
             stands = open-stands (h .standing .stands) (h .between) (h .onward);
-            cached = known-kept (at .st) (open-comment (advance (at .st) e) (cur-pos s (at .st))) refl refl (known-asked (h .standing) (at .st .offset) (h .standing .stands .sound .order));
+            cached = known-kept (at .st) (open-comment (advance (at .st) e) (cur-pos s (at .st))) refl refl (h .standing .cached);
           };
           mode = refl;
         })
@@ -58,18 +58,18 @@ module _ {s : Bytes} {at : Place} {e : ℕ} (h : Chose s at e) where
         → ReadsAny s (source.comment s (at .st .offset) (open-comment (advance (at .st) e) (cur-pos s (at .st)))) r
     comment-reads {r} d name f = subst (λ (b : State). Reads s name f (source.comment s (at .st .offset) b) r) opened (d name f)
 
-  module _ {next : State} (q : next ≡ advance (at .st) e) where
-    -- a line's comment is read from behind its slashes on
-    pub behind-slashes : Behind s (at .st .offset) next (at .known)
-    behind-slashes = rw q (record { standing = stands-behind; order = omega (arith, h .onward .past) })
-
-    pub slashes-read : {r : Read} → ReadsAny s (source.line-comment s (lexeme s (at .st .offset) (next .offset)) next) r
-        → ReadsAny s (source.line-comment s (lexeme s (at .st .offset) e) (advance (at .st) e)) r
-    slashes-read {r} d name f = subst (λ (b : State). Reads s name f (source.line-comment s (lexeme s (at .st .offset) (b .offset)) b) r) q (d name f)
-
-  -- ---- literals and blobs
+  -- ---- line comments, literals and blobs
 
   module _ {place : Place} (q : place ≡ moved at e) where
+    -- a line's comment is read from behind its slashes on
+    pub behind-slashes : Behind s (at .st .offset) place
+    behind-slashes = rw q (record { standing = stands-behind; order = omega (arith, h .onward .past) })
+
+    pub slashes-read : {r : Read} → ReadsAny s (source.line-comment s (lexeme s (at .st .offset) (place .st .offset)) (place .st)) r
+        → ReadsAny s (source.line-comment s (lexeme s (at .st .offset) e) (advance (at .st) e)) r
+    slashes-read {r} d name f =
+        subst (λ (b : Place). Reads s name f (source.line-comment s (lexeme s (at .st .offset) (b .st .offset)) (b .st)) r) q (d name f)
+
     pub before-literal : {f : Bytes} → class-check f ≡ 0 → Reader s f place
     before-literal c = rw q (record { accepted = c; standing = stands-behind; between = h .between })
 

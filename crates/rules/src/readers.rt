@@ -36,8 +36,11 @@ pub fn comment_start(text: &[u8], at: Place, e: usize) -> Read
     let st = at.st;
     let known = at.known;
     let here = pos_of(text, st, known, st.offset);
-    let inside = st.advance(e as u32).open_comment(here.pos);
-    comment(text, st.offset as usize, inside, here.known)
+    let inside = Place {
+        st: st.advance(e as u32).open_comment(here.pos),
+        known: known,
+    };
+    comment(text, st.offset as usize, inside)
 }
 
 // A line's comment behind its slashes.
@@ -46,8 +49,7 @@ pub fn slashes(text: &[u8], at: Place, e: usize) -> Read
     ensures { λ r. ⌜ ReadsAny (now (text .entry)) (source.line-comment (now (text .entry)) (lexeme (now (text .entry)) (at .st .offset) e) (advance (at .st) e)) r ⌝ }
 {
     let st = at.st;
-    let known = at.known;
-    line_comment(text, st.offset as usize, st.advance(e as u32), known)
+    line_comment(text, st.offset as usize, moved(at, e))
 }
 
 // A string literal behind its quote.

@@ -105,9 +105,8 @@ pub fn step(
     ensures { λ r. ⌜ Reads (now (text .entry)) (now (name .entry)) (now (classes .entry)) (step (now (text .entry)) (now (name .entry)) (now (classes .entry)) (at .st)) r ⌝ }
 {
     let st = at.st;
-    let known = at.known;
     if st.mode == 1 {
-        return comment(text, st.offset as usize, st, known);
+        return comment(text, st.offset as usize, at);
     }
     next_token(text, name, classes, ops, symbols, at)
 }

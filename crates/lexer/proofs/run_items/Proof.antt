@@ -26,8 +26,14 @@ loop-holds c = (going-starts _ _ _ _ _ _ (c .before .before .before .before .bef
 
 turn-requires : tie.Need-turn-requires Inv-loop μ-loop
 turn-requires c κs =
-    let l = c .before .before .before .before in
-    (l .loop .inv .0 .between, (l .before .before .op-char-table .ensures, l .before .symbolchar-table .ensures))
+    let l = c .before .before .before .before in (
+      l .loop .inv .0 .between,
+      record {
+        classes = l .loop .inv .0 .between .accepted;
+        operators = l .before .before .op-char-table .ensures;
+        symbolchars = l .before .symbolchar-table .ensures;
+      },
+    )
 
 enum-known-stop : tie.Need-enum-known-stop Inv-loop μ-loop
 enum-known-stop c = search needs

@@ -24,7 +24,10 @@ returns-2 c =
     turn-full _ _ _ (writing (g .args .at) (g .args .count) (g .args .used) (g .args .records .now) (g .args .payload .now)) (c .before .if1 .left) (c .if2 .taken)
 
 step-requires : tie.Need-step-requires
-step-requires c κs = search needs
+step-requires c κs =
+    let p = c .before .before .before .before .before .before .before .before .before .pre in
+    let b = p .0 in
+    record { standing = record { stands = b .kept .stands; cached = b .cached }; unended = c .before .if1 .left; lent = p .1; named = b .named }
 
 length-of-requires : tie.Need-length-of-requires
 length-of-requires c κs = measurable (c .before .before .before .before .before .before .before .before .before .before .pre .0) (c .before .before .if1 .left) (c .step .ensures)

@@ -1,5 +1,5 @@
 -- Each buffer's tail comes back written over.
-use Rattle.payloads.proofs.Parts.{lent}
+use Rattle.lemmas.proofs.Tails.{lent}
 use borrow.Author.Needs.{needs}
 use Rattle.lexer.proofs.write_item.Statement.{statement}
 use Rattle.lexer.proofs.write_item.Tie as tie

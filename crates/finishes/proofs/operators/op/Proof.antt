@@ -14,13 +14,13 @@ line-comment-requires : tie.Need-line-comment-requires
 line-comment-requires c κs = search needs
 
 returns : tie.Need-returns
-returns c = op-comment (c .before .before .before .before .before .before .before .before .pre) _ (c .before .before .no-comment .ensures) (c .before .if1 .taken) (c .line-comment .ensures)
+returns c = op-comment (c .before .before .before .before .before .before .before .pre) _ (c .before .before .no-comment .ensures) (c .before .if1 .taken) (c .line-comment .ensures)
 
 finish-requires : tie.Need-finish-requires
-finish-requires c κs = cut-spans (c .before .before .before .before .before .before .before .pre) (c .before .no-comment .ensures)
+finish-requires c κs = cut-spans (c .before .before .before .before .before .before .pre) (c .before .no-comment .ensures)
 
 returns-2 : tie.Need-returns-2
-returns-2 c = op-does (c .before .before .before .before .before .before .before .before .pre) _ (c .before .before .no-comment .ensures) (c .before .if1 .left) (c .finish .ensures)
+returns-2 c = op-does (c .before .before .before .before .before .before .before .pre) _ (c .before .before .no-comment .ensures) (c .before .if1 .left) (c .finish .ensures)
 
 pub op-spec : {M : Type 1} → statement M
 op-spec =

@@ -7,19 +7,14 @@ use Rattle.rules.proofs.readers.slashes.Tie as tie
 cast-line-comment : tie.Need-cast-line-comment
 cast-line-comment c = search needs
 
-cast-advance : tie.Need-cast-advance
-cast-advance c = search needs
-
-advance-requires : tie.Need-advance-requires
-advance-requires c κs = search needs
+moved-requires : tie.Need-moved-requires
+moved-requires c κs = search needs
 
 line-comment-requires : tie.Need-line-comment-requires
-line-comment-requires c κs = behind-slashes (c .before .before .before .before .before .pre) (c .advance .ensures)
+line-comment-requires c κs = behind-slashes (c .before .before .before .before .pre) (c .moved .ensures)
 
 returns : tie.Need-returns
-returns c = slashes-read (c .before .before .before .before .before .before .pre) (c .before .advance .ensures) (c .line-comment .ensures)
+returns c = slashes-read (c .before .before .before .before .before .pre) (c .before .moved .ensures) (c .line-comment .ensures)
 
 pub slashes-spec : {M : Type 1} → statement M
-slashes-spec =
-    tie.close
-    (tie.spec cast-line-comment cast-advance advance-requires line-comment-requires returns)
+slashes-spec = tie.close (tie.spec cast-line-comment moved-requires line-comment-requires returns)
