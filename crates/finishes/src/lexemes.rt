@@ -2,7 +2,6 @@
 use crate::tokens::error_over;
 use crate::tokens::finish;
 use definition::Extra;
-use definition::State;
 use described::Payload;
 use described::Place;
 use described::Read;
@@ -12,7 +11,6 @@ use lookups::reserved;
 use lookups::table::constructor;
 use lookups::table::keyword;
 use lookups::table::uoperator;
-ghost use mathlib.Core.Path.{_≡_};
 ghost use Rattle.definition.specs.Tables.{constructors, uoperators};
 ghost use Rattle.definition.specs.Token.{ident, finish-word};
 ghost use Rattle.finishes.specs.Finishing.{Chose, Does, worded, Placed};

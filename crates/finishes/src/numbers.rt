@@ -2,7 +2,6 @@
 use crate::tokens::error_over;
 use crate::tokens::finish;
 use definition::Extra;
-use definition::State;
 use described::Payload;
 use described::Place;
 use described::Read;
@@ -10,7 +9,6 @@ use escapes::unescape;
 use numerals::Part;
 use numerals::above_255;
 use numerals::clean_number;
-ghost use mathlib.Core.Path.{_≡_};
 ghost use Prim.Native.Nat.{_≤_};
 ghost use lib.ListN.{length};
 ghost use Rattle.definition.specs.Token.{number, uint8, bad-number, char-lit};

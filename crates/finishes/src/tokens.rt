@@ -1,18 +1,14 @@
 // A token up to an end, and an error over what was chosen.
 use definition::Extra;
-use definition::State;
 use described::Payload;
 use described::Place;
 use described::Read;
 use described::tokens::lex_error;
 use described::tokens::token;
-use positions::Cache;
 use positions::pos_of;
-ghost use mathlib.Core.Path.{_≡_};
 ghost use Rattle.definition.specs.Basics.{Bytes};
 ghost use Rattle.definition.specs.Position.{pos-of, cur-pos};
 ghost use Rattle.definition.specs.Item.{lex-error};
-ghost use Rattle.definition.specs.declared.Extra.the-variants.{NoExtra};
 ghost use Rattle.described.specs.Described.{Describes, Sized, Reads};
 ghost use Rattle.finishes.specs.Finishing.{spanned, Chose, Spans};
 

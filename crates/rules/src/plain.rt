@@ -2,7 +2,6 @@
 use crate::table::kind_of;
 use definition::Choice;
 use definition::Extra;
-use definition::State;
 use described::Payload;
 use described::Place;
 use described::Read;

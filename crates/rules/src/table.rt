@@ -4,62 +4,116 @@ ghost use Prim.Native.Nat.{_<_};
 ghost use Rattle.rules.specs.Plain.{kind-of};
 ghost use Rattle.rules.specs.Ruling.{rule-of};
 
-// The number of each place's rule: 1 a token that its place and word decide, 2 a blob, 3 another language's text, 4 white
-// space, 5 a line's end, 6 a character, 7 a keyword before operators, 8 an identifier, 9 a capital name, 10 a number,
-// 11 a number of a byte, 12 a bad number, 13 a comment, 14 a line's comment, 15 a string literal, 16 a `>`, 17 an operator,
-// 18 an operator beyond ASCII; 0 where no place was chosen.
+// The rules by their numbers, and that of no place.
+pub const NO_RULE: u32 = 0;
+
+// A token that its place and word decide.
+pub const PLAIN: u32 = 1;
+
+// A blob between backticks.
+pub const FENCED: u32 = 2;
+
+// The text of another language.
+pub const LANGUAGE: u32 = 3;
+
+// White space, and what is passed like it.
+pub const WHITE: u32 = 4;
+
+// A line's end.
+pub const LINE_END: u32 = 5;
+
+// A character.
+pub const CHARACTER: u32 = 6;
+
+// A keyword before operator characters.
+pub const KEYWORD_OPERATOR: u32 = 7;
+
+// An identifier or a keyword.
+pub const IDENTIFIER: u32 = 8;
+
+// A name that begins with a capital.
+pub const CAPITAL_NAME: u32 = 9;
+
+// A number.
+pub const NUMBER: u32 = 10;
+
+// A number of a byte.
+pub const BYTE_NUMBER: u32 = 11;
+
+// What begins like a number and is none.
+pub const BAD_NUMBER: u32 = 12;
+
+// A comment.
+pub const COMMENT: u32 = 13;
+
+// A line's comment.
+pub const LINE_COMMENT: u32 = 14;
+
+// A string literal.
+pub const LITERAL: u32 = 15;
+
+// `>` and symbol characters.
+pub const GREATER: u32 = 16;
+
+// An operator.
+pub const OPERATOR: u32 = 17;
+
+// An operator beyond ASCII.
+pub const UNICODE_OPERATOR: u32 = 18;
+
+// The rule of each place.
 const RULES: [u32; 51] = [
-    0,
-    1,
-    2,
-    3,
-    1,
-    1,
-    1,
-    4,
-    5,
-    6,
-    6,
-    1,
-    7,
-    1,
-    8,
-    9,
-    10,
-    11,
-    10,
-    10,
-    10,
-    10,
-    10,
-    10,
-    10,
-    10,
-    1,
-    12,
-    13,
-    4,
-    14,
-    15,
-    1,
-    1,
-    1,
-    1,
-    1,
-    1,
-    16,
-    17,
-    17,
-    17,
-    17,
-    17,
-    17,
-    17,
-    17,
-    17,
-    17,
-    18,
-    1,
+    NO_RULE,
+    PLAIN,
+    FENCED,
+    LANGUAGE,
+    PLAIN,
+    PLAIN,
+    PLAIN,
+    WHITE,
+    LINE_END,
+    CHARACTER,
+    CHARACTER,
+    PLAIN,
+    KEYWORD_OPERATOR,
+    PLAIN,
+    IDENTIFIER,
+    CAPITAL_NAME,
+    NUMBER,
+    BYTE_NUMBER,
+    NUMBER,
+    NUMBER,
+    NUMBER,
+    NUMBER,
+    NUMBER,
+    NUMBER,
+    NUMBER,
+    NUMBER,
+    PLAIN,
+    BAD_NUMBER,
+    COMMENT,
+    WHITE,
+    LINE_COMMENT,
+    LITERAL,
+    PLAIN,
+    PLAIN,
+    PLAIN,
+    PLAIN,
+    PLAIN,
+    PLAIN,
+    GREATER,
+    OPERATOR,
+    OPERATOR,
+    OPERATOR,
+    OPERATOR,
+    OPERATOR,
+    OPERATOR,
+    OPERATOR,
+    OPERATOR,
+    OPERATOR,
+    OPERATOR,
+    UNICODE_OPERATOR,
+    PLAIN,
 ];
 
 // The kinds of the places that decide it by themselves, by place; 0 for the others.

@@ -6,18 +6,15 @@
 // ended, the class file is accepted, the tables of operator and of symbol characters are lent, and the name is short enough.
 use comments::pieces::comment;
 use definition::Extra;
-use definition::State;
 use described::Payload;
 use described::Place;
 use described::Read;
 use described::Turned;
 use described::tokens::ended;
 use described::tokens::token;
-use positions::Cache;
 use positions::pos_of;
 use rules::act;
 use select::select;
-ghost use mathlib.Core.Path.{_≡_};
 ghost use Rattle.definition.specs.Token.{token-turn, next-token, step};
 ghost use Rattle.described.specs.Described.{Reads, Turns};
 ghost use Rattle.described.specs.Standing.{Standing};
