@@ -37,7 +37,7 @@ use Rattle.longest.proofs.Floats.{pointed, scientific, match-pointed, m
 -- ---- runs
 
 -- Every character of an expression passes a test.
-abbrev Within : (ℕ → Bool) → Re → Type 0
+abbrev pub Within : (ℕ → Bool) → Re → Type 0
 Within p eps = Unit
 Within p (chr q) = (c : ℕ) → q c ≡ true → p c ≡ true
 Within p (seq r q) = Within p r × Within p q
@@ -133,7 +133,7 @@ module _ (f : Bytes) where
   integer-within = (digit-ident, digit-ident)
 
   -- So are those of an integer with a letter for its base.
-  xinteger-within : Within (is-ident-char f) xinteger
+  pub xinteger-within : Within (is-ident-char f) xinteger
   unfolding is-ident-char mem-cp is-digit
   xinteger-within =
       let octal : (c : ℕ) → between (ch "0") (ch "7") c ≡ true → is-ident-char f c ≡ true = λ c t. hex-ident c (octal-hex c t) in
@@ -149,7 +149,7 @@ module _ (f : Bytes) where
       )
 
   -- So are those of one with LF behind it.
-  xieee64-within : Within (is-ident-char f) xieee64
+  pub xieee64-within : Within (is-ident-char f) xieee64
   unfolding is-ident-char is-digit
   xieee64-within = (xinteger-within, (is-passes (is-ident-char f) (ch "L") refl, (is-passes (is-ident-char f) (ch "F") refl, tt)))
 
@@ -160,11 +160,11 @@ abbrev number : Re
 number = alt integer (alt xinteger (alt ieee64 xieee64))
 
 -- One or more characters of identifiers.
-abbrev letters : Bytes → Re
+abbrev pub letters : Bytes → Re
 letters f = some (chr (is-ident-char f))
 
 -- What one of two answers reaches the later one does.
-reaches-later : (m n : Match) (k : ℕ) → Reaches k m ⊎ Reaches k n → Reaches k (later m n)
+pub reaches-later : (m n : Match) (k : ℕ) → Reaches k m ⊎ Reaches k n → Reaches k (later m n)
 reaches-later m n k = right-later (itself m) (itself n) .top k
   where
     itself : (m : Match) → Right (λ k. Reaches k m) m
@@ -178,7 +178,7 @@ reaches-max (m ∷ ms) zero k h = reaches-later m (max-list ms) k (inl h)
 reaches-max (m ∷ ms) (suc n) k h = reaches-later m (max-list ms) k (inr (reaches-max ms n k h))
 
 -- A right answer is an end of whatever its ends are ends of.
-right-end : {P Q : ℕ → Type 0} {m : Match} → Right P m → ((e : ℕ) → P e → Q e) → Each-end Q m
+pub right-end : {P Q : ℕ → Type 0} {m : Match} → Right P m → ((e : ℕ) → P e → Q e) → Each-end Q m
 right-end r f = record { at = λ {e} q. f e (r .fits e q) }
 
 module _ (s f : Bytes) (i : ℕ) where
@@ -211,18 +211,18 @@ module _ (s f : Bytes) (i : ℕ) where
 
   -- ---- every end is reached
 
-  -- What is reached behind the longest integer is reached: three of the seven ends are enough.
-  by-integer : (k : ℕ) → Reaches k (match-integer s i then plus (is-ident-char f) s) → Reaches k (match-bad-number s f i)
+  -- What is reached behind the longest integer is reached.
+  pub by-integer : (k : ℕ) → Reaches k (match-integer s i then plus (is-ident-char f) s) → Reaches k (match-bad-number s f i)
   unfolding match-bad-number
   by-integer k h = reaches-max _ 0 k h
 
   -- What is reached behind a number up to its point is reached.
-  by-point : (k : ℕ) → Reaches k (match-pointed s i then plus (is-ident-char f) s) → Reaches k (match-bad-number s f i)
+  pub by-point : (k : ℕ) → Reaches k (match-pointed s i then plus (is-ident-char f) s) → Reaches k (match-bad-number s f i)
   unfolding match-bad-number
   by-point k h = reaches-max _ 5 k h
 
   -- What is reached behind one with an exponent of one digit is reached.
-  by-exponent : (k : ℕ) → Reaches k (match-short s i then plus (is-ident-char f) s) → Reaches k (match-bad-number s f i)
+  pub by-exponent : (k : ℕ) → Reaches k (match-short s i then plus (is-ident-char f) s) → Reaches k (match-bad-number s f i)
   unfolding match-bad-number
   by-exponent k h = reaches-max _ 6 k h
 
@@ -236,7 +236,7 @@ module _ (s f : Bytes) (i : ℕ) where
       subst (λ (m : Match). Reaches k (m then plus (is-ident-char f) s)) (sym q) (plus-right s (is-ident-char f) j .top k (run-some s (is-ident-char f) c h))
 
   -- Behind a shortest part that has one end, digits are the first of those characters, so what they lead to is reached behind it.
-  short-reaches : {m : Match} (r : Re) → Single (At s r i) → Right (At s r i) m → (j n k : ℕ) → At s r i j → Chain (Step s is-digit) j n
+  pub short-reaches : {m : Match} (r : Re) → Single (At s r i) → Right (At s r i) m → (j n k : ℕ) → At s r i j → Chain (Step s is-digit) j n
       → At s (letters f) n k → Reaches k (m then plus (is-ident-char f) s)
   short-reaches r one h j n k a c b =
       let d = at-run s (is-ident-char f) (many (chr is-digit)) (digit-ident f) j n c in
@@ -252,23 +252,28 @@ module _ (s f : Bytes) (i : ℕ) where
 
   -- Where a number has characters of identifiers alone and begins with an integer, what is behind the longest integer is found, and
   -- where nothing is behind it, it reaches as far itself: then a digit stands behind its first.
-  run-reached : (r : Re) → Within (is-ident-char f) r → nullable r ≡ false → (j m k : ℕ) → At s integer i j → At s r i m → At s (letters f) m k → Reached k
-  run-reached r w n j m k a x y =
+  pub run-found : (r : Re) → Within (is-ident-char f) r → nullable r ≡ false → (j m k : ℕ) → At s integer i j → At s r i m → At s (letters f) m k
+      → Reaches k (match-integer s i then plus (is-ident-char f) s) ⊎ ((e : ℕ) × At s (seq (chr is-digit) integer) i e × (k ≤ e))
+  run-found r w n j m k a x y =
       let t = integer-right s i .top j a in
       let b = integer-right s i .fits (t .0) (t .1) in
       let v = at-run s (is-ident-char f) r w i m x in
       let c = chain-join v (letters-run m k y) in
       let d = at-run s (is-ident-char f) integer (integer-within f) i (t .0) b in
       by-order (t .0) k
-      (λ h. inl (by-integer k (found-reaches (t .0) k (t .1) (run-rest s (is-ident-char f) d c h) h)))
+      (λ h. inl (found-reaches (t .0) k (t .1) (run-rest s (is-ident-char f) d c h) h))
       (λ h.
       let past = run-first s (is-ident-char f) (b .1) v (at-ahead s r i m n x) in
       let more = at-ahead s (letters f) m k refl y in
-      let e = two-right .top (t .0) (b .0, b .1, run-some s is-digit (b .2) (omega (arith, past, more))) in
-      inr (e .0, e .1, omega (arith, e .2)))
+      inr (t .0, (b .0, b .1, run-some s is-digit (b .2) (omega (arith, past, more))), h))
+
+  -- So such a number is reached.
+  run-reached : (r : Re) → Within (is-ident-char f) r → nullable r ≡ false → (j m k : ℕ) → At s integer i j → At s r i m → At s (letters f) m k → Reached k
+  run-reached r w n j m k a x y =
+      ⊎-elim (λ h. inl (by-integer k h)) (λ (e, h, l). let t = two-right .top e h in inr (t .0, t .1, omega (arith, t .2))) (run-found r w n j m k a x y)
 
   -- An integer with a letter begins with an integer, its 0.
-  zero-first : (e : ℕ) → At s xinteger i e → (j : ℕ) × At s integer i j
+  pub zero-first : (e : ℕ) → At s xinteger i e → (j : ℕ) × At s integer i j
   unfolding is-digit
   zero-first e (m, (j, a, b), c) = (j, (j, step-map (is-passes is-digit (ch "0") refl) a, stop refl))
 

@@ -32,15 +32,15 @@ use Rattle.longest.proofs.Continues.{two, two-listed, none-listed, righ
 -- ---- integers
 
 -- One of some letters for the base, and digits.
-abbrev based : String → (ℕ → Bool) → Re
+abbrev pub based : String → (ℕ → Bool) → Re
 based letters p = seq (one-of letters) (some (chr p))
 
 -- What stands behind the 0 of a binary integer.
-abbrev binary : Re
+abbrev pub binary : Re
 binary = based "bB" (λ c. mem-cp c (codes "01"))
 
 -- What stands behind that of an octal or a binary one.
-abbrev octal-or-binary : Re
+abbrev pub octal-or-binary : Re
 octal-or-binary = alt (based "oO" (between (ch "0") (ch "7"))) binary
 
 -- A digit is a hexadecimal one.
