@@ -148,6 +148,11 @@ pub floatp-is : (s : Bytes) (i : ℕ) → (match-integer s i then fraction s) �
 unfolding match-floatp fraction
 floatp-is s i = refl
 
+-- An R behind a float that is known by equations.
+pub real-of : (s : Bytes) (i : ℕ) {digits float r : Match} → r ≡ (float then real-end s) → digits ≡ match-integer s i → float ≡ (digits then fraction s)
+    → r ≡ match-real s i
+real-of s i p q h = then-of (real-end s) p (then-of (fraction s) h q ∙ floatp-is s i) ∙ real-is s i
+
 -- `match-floate` is an exponent behind them.
 pub floate-is : (s : Bytes) (i : ℕ) → (match-integer s i then exponent-behind s) ≡ match-floate s i
 unfolding match-floate exponent-behind exponent
