@@ -1,18 +1,22 @@
 -- The tables of the definition, each shown by one computed test: the lowercase ranges are what the source's string spells and
--- ascend, the kinds are numbered 1 to 173, and every kind that a table or a rule names is one of them. Rests on nothing but the
--- definition.
+-- ascend, the kinds are numbered 1 to 173, every kind that a table or a rule names is one of them, and a table is searched to its
+-- longest word. Rests on nothing but the definition.
 use Prim.Native.Nat.{ℕ, _+_}
 use Prim.Native.String.{String}
 use mathlib.Core.Path.{_≡_, refl}
 use mathlib.Core.Bool.{Bool, true, _&&_, not}
 use mathlib.Core.List.{List, [], _∷_, _++_, map}
 use lib.Dec.{eqb}
-use Rattle.definition.specs.Basics.{again, done, if_then_else_}
+use Rattle.definition.specs.Basics.{Bytes, again, done, loop, mem-cp, if_then_else_}
+use Rattle.definition.specs.Utf8.{encode, encode-all, sequence-at, sequence}
+use Rattle.definition.specs.Text.{char-has, byte-has, star}
 use Rattle.definition.specs.ClassFile.{ascending}
 use Rattle.definition.specs.Lowercase.{ll-ranges, decode, decode-from, hex-digit, ll-tbl, flat}
-use Rattle.definition.specs.Chars.{count-up}
+use Rattle.definition.specs.Chars.{is-digit, is-op-char, is-symbolchar, in-table, ascii-table, count-up, is-lower, is-ident-start, is-constructor-start}
 use Rattle.definition.specs.Kinds.{kind-names, number-from, kind}
-use Rattle.definition.specs.Tables.{keywords, constructors, op-tokens, uoperators, early-literals, kw-op-rules, mixfix-rules}
+use Rattle.definition.specs.Tables.{cps, keywords, constructors, op-tokens, uoperators, early-literals, kw-op-rules, mixfix-rules}
+use Rattle.definition.specs.Matchers.{one, match-lit, plus, match-ident, match-constructor}
+use Rattle.definition.specs.Select.{keep, try-words, try-all, one-of-then-symbols, lit-then-symbols, places, select}
 use Rattle.definition.specs.State.{started}
 use Rattle.definition.specs.Token.{Token-turn, rules}
 use Rattle.definition.specs.Listed.{listed}
@@ -82,3 +86,10 @@ unknown (k ∷ ks) = if known k then unknown ks else 1 + unknown ks
 pub places-known : unknown (map kind given-by-place) ≡ 5
 unfolding kind kind-names number-from
 places-known = refl
+
+-- ---- the search of a table
+
+-- of the words of a table that fit the longest is chosen: at `%splice_t`, `%splice` fits too and stands before it
+pub longest-word : (f : Bytes) → select (cps "%splice_t") f 0 ≡ record { place = 1; end = 9; word = 1 }
+unfolding select places try-all try-words keep one-of-then-symbols lit-then-symbols cps encode-all encode sequence-at sequence char-has byte-has star loop match-lit plus one match-ident match-constructor is-digit is-op-char is-symbolchar in-table ascii-table count-up mem-cp is-ident-start is-constructor-start is-lower early-literals kw-op-rules op-tokens mixfix-rules
+longest-word f = refl

@@ -1,16 +1,20 @@
 -- The choice among places put together from what each call answered. Rests on the definitions alone.
 use Prim.Native.Nat.{ℕ}
-use mathlib.Core.Path.{_≡_, sym, ap, ap₂, _∙_}
+use mathlib.Core.Path.{_≡_, refl, sym, ap, ap₂, _∙_}
 use mathlib.Core.Bool.{Bool, true, false}
+use lib.Dec.{eqb}
+use borrow.Author.Tests.{eqb-true}
 use Rattle.definition.specs.Basics.{Bytes}
 use Rattle.definition.specs.Matchers.{_then_, later, max-list, only, match-integer, match-xinteger, any-integer-ends}
-use Rattle.definition.specs.Select.{keep, found}
+use Rattle.definition.specs.Select.{none-at, keep, found}
 use Rattle.definition.specs.declared.Choice.{Choice}
 use Rattle.definition.specs.declared.Match.{Match}
 use Rattle.definition.specs.declared.Match.the-variants.{To, Nothing}
 use Rattle.numbers.specs.declared.IntegerEnds.{IntegerEnds}
 use Rattle.numbers.specs.Parts.{integer-ends}
+use Rattle.lemmas.proofs.Cases.{by-test}
 use Rattle.scan.proofs.ByteLaws.{later-nothing}
+use Rattle.groups.specs.Groups.{quantified}
 
 -- The better of two choices that are known by equations.
 pub kept : {b b′ p p′ r : Choice} → r ≡ keep b p → b ≡ b′ → p ≡ p′ → r ≡ keep b′ p′
@@ -40,3 +44,9 @@ then-no g h = ap (λ (n : Match). n then g) (sym h)
 pub ends-latest : (s : Bytes) (i : ℕ) {ends : IntegerEnds} {r : Match} → r ≡ later (ends .plain) (ends .based) → ends ≡ integer-ends s i → r ≡ max-list (any-integer-ends s i)
 unfolding max-list any-integer-ends
 ends-latest s i p q = p ∙ ap (λ (e : IntegerEnds). later (e .plain) (e .based)) q ∙ ap (later (match-integer s i)) (sym (later-nothing (match-xinteger s i)))
+
+-- Where c is neither ∀ nor ∃, no keyword operator is tried.
+pub quantified-no : (s : Bytes) (i c : ℕ) → (c ≡ 0x2200 → ⊥) → (c ≡ 0x2203 → ⊥) → quantified s i c ≡ none-at i
+quantified-no s i c a b =
+    by-test (λ (k : Choice). k ≡ none-at i) (eqb c 0x2200) (λ e. absurd (a (eqb-true c 0x2200 e))) λ _.
+    by-test (λ (k : Choice). k ≡ none-at i) (eqb c 0x2203) (λ e. absurd (b (eqb-true c 0x2203 e))) λ _. refl

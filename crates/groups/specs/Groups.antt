@@ -3,6 +3,7 @@
 -- s is the text, f the class file, i the offset.
 use Prim.Native.Nat.{ℕ, _+_}
 use mathlib.Core.Bool.{true, false}
+use lib.Dec.{eqb}
 use Rattle.definition.specs.Basics.{Bytes}
 use Rattle.definition.specs.Text.{star}
 use Rattle.definition.specs.Chars.{is-op-char, is-symbolchar, is-ident-start, is-constructor-start, is-ident-char, is-anywhite, is-newline-char, is-uoperator}
@@ -199,11 +200,15 @@ at-digit s f i = at-integers s i or found i 26 0 (match-real s i) or found i 27 
 
 -- ---- a character c beyond ASCII, with the offset j after it
 
+-- a keyword operator, with which only ∀ and ∃ begin
+abbrev pub quantified : Bytes → ℕ → ℕ → Choice
+quantified s i c = elim (eqb c 0x2200) [ true ↦ keyword s i | false ↦ elim (eqb c 0x2203) [ true ↦ keyword s i | false ↦ none-at i ] ]
+
 abbrev pub at-beyond-ascii : Bytes → Bytes → ℕ → ℕ → ℕ → Choice
 at-beyond-ascii s f i c j =
     alone i 7 (only (is-anywhite f c) (To (star (is-anywhite f) s j)))
     or found i 8 0 (only (is-newline-char c) (To j))
-    or keyword s i
+    or quantified s i c
     or found i 14 0 (only (is-ident-start c) (To (star (is-ident-char f) s j)))
     or found i 15 0 (only (is-constructor-start f c) (To (star (is-ident-char f) s j)))
     or found i 49 0 (only (is-uoperator f c) (To j))

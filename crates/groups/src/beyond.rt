@@ -12,13 +12,14 @@ use scan::runs::star_anywhite;
 use scan::runs::star_ident_char;
 use words::keep;
 use words::kw_op;
+use words::nothing;
 ghost use mathlib.Core.Path.{_≡_};
 ghost use Rattle.definition.specs.ClassFile.{class-check};
 ghost use Rattle.definition.specs.Chars.{ascii-table, op-char-cps, is-anywhite, is-newline-char, is-ident-start, is-constructor-start, is-ident-char, is-uoperator};
 ghost use Rattle.definition.specs.Text.{star};
 ghost use Rattle.definition.specs.Matchers.{only};
 ghost use Rattle.definition.specs.declared.Match.the-variants.{To};
-ghost use Rattle.groups.specs.Groups.{at-beyond-ascii};
+ghost use Rattle.groups.specs.Groups.{quantified, at-beyond-ascii};
 
 // The end of white space behind a character c.
 fn white_behind(text: &[u8], file: &[u8], c: u32, j: usize) -> Match
@@ -74,6 +75,20 @@ fn uoperator(file: &[u8], c: u32, j: usize) -> Match
     Match::Nothing
 }
 
+// A keyword operator whose first character is c: of those beyond ASCII only ∀ and ∃ begin one.
+fn quantifier(text: &[u8], ops: &[bool; 128], i: usize, c: u32) -> Choice
+    requires { ⌜ now ops ≡ ascii-table op-char-cps ⌝ }
+    ensures { λ r. ⌜ r ≡ quantified (now (text .entry)) i c ⌝ }
+{
+    if c == 0x2200 {
+        return kw_op(text, ops, i);
+    }
+    if c == 0x2203 {
+        return kw_op(text, ops, i);
+    }
+    nothing(i)
+}
+
 // A character c from i to j.
 pub fn at_beyond_ascii(
     text: &[u8],
@@ -88,7 +103,7 @@ pub fn at_beyond_ascii(
 {
     let mut best = alone(i, 7, white_behind(text, file, c, j));
     best = try_place(best, i, 8, line_end(c, j));
-    best = keep(best, kw_op(text, ops, i));
+    best = keep(best, quantifier(text, ops, i, c));
     best = try_place(best, i, 14, ident_behind(text, file, c, j));
     best = try_place(best, i, 15, constructor_behind(text, file, c, j));
     try_place(best, i, 49, uoperator(file, c, j))

@@ -1,12 +1,13 @@
-// Numbers: an integer's digits are read once for all its suffixes.
+// Numbers: an integer's digits are read once for all its suffixes, and a fraction's once for reals and bad numbers.
 use crate::choice::alone;
 use crate::choice::try_place;
 use definition::Choice;
 use definition::Match;
 use numbers::IntegerEnds;
 use numbers::any_integer_ends;
-use numbers::match_bad_number;
-use numbers::match_real;
+use numbers::bad_number_after;
+use numbers::floatp_after;
+use numbers::real_after;
 use numbers::suffix_after;
 use numbers::usuffix_after;
 use scan::bytes::later;
@@ -67,11 +68,11 @@ fn byte_after(text: &[u8], ends: IntegerEnds, i: usize) -> Match
     )
 }
 
-// An integer of each type.
-fn at_integers(text: &[u8], i: usize) -> Choice
+// An integer of each type, from its ends.
+fn at_integers(text: &[u8], ends: IntegerEnds, i: usize) -> Choice
+    requires { ⌜ ends ≡ integer-ends (now text) i ⌝ }
     ensures { λ r. ⌜ r ≡ at-integers (now (text .entry)) i ⌝ }
 {
-    let ends = any_integer_ends(text, i);
     let mut best = alone(i, 16, latest(ends));
     best = try_place(best, i, 17, byte_after(text, ends, i));
     best = try_suffix(best, text, ends, b"y", i, 18);
@@ -89,7 +90,10 @@ pub fn at_digit(text: &[u8], file: &[u8], i: usize) -> Choice
     requires { ⌜ class-check (now file) ≡ 0 ⌝ }
     ensures { λ r. ⌜ r ≡ at-digit (now (text .entry)) (now (file .entry)) i ⌝ }
 {
-    let mut best = at_integers(text, i);
-    best = try_place(best, i, 26, match_real(text, i));
-    try_place(best, i, 27, match_bad_number(text, file, i))
+    let ends = any_integer_ends(text, i);
+    let digits = ends.plain;
+    let float = floatp_after(text, digits);
+    let mut best = at_integers(text, ends, i);
+    best = try_place(best, i, 26, real_after(text, float));
+    try_place(best, i, 27, bad_number_after(text, file, digits, float))
 }

@@ -1,12 +1,13 @@
 -- A number that goes on as an identifier: what its matcher finds is an end of the pattern, and every end of the pattern is reached by
--- it or by an integer. For `12` the pattern fits too, as 1 and then 2, and the matcher finds nothing: there the integer reaches as far.
+-- it or by an integer of two digits or more. For `12` the pattern fits too, as 1 and then 2, and the matcher finds nothing: there the
+-- integer reaches as far.
 -- "Since digits are ident chars, the shortest float matches are the relevant ones": behind the shortest part of a number with a point
 -- or an exponent, digits are the first characters of the identifier. Rests on integers and on the shortest parts.
 use Prim.Native.Nat.{ℕ, zero, suc, _≤_, _<_}
 use mathlib.Core.Path.{_≡_, refl, sym, subst}
-use mathlib.Core.Bool.{Bool, true, _||_}
+use mathlib.Core.Bool.{Bool, true, false, _||_}
 use mathlib.Core.List.{List, [], _∷_}
-use mathlib.Core.Logic.{_⊎_, inl, inr}
+use mathlib.Core.Logic.{_⊎_, inl, inr, ⊎-elim}
 use native.Mathlib.Omega.{arith}
 use lib.Dec.{eqb}
 use lib.ListN.{getD}
@@ -15,6 +16,7 @@ use Rattle.definition.specs.Basics.{Bytes, ch, codes, mem-cp, between}
 use Rattle.definition.specs.Chars.{is-digit, is-hex, is-ident-char}
 use Rattle.definition.specs.Matchers.{_then_, later, max-list, plus, match-integer, any-integer-ends, match-bad-number}
 use Rattle.definition.specs.Regex.{Re, eps, chr, seq, alt, many, some}
+use Rattle.definition.specs.Samples.{nullable}
 use Rattle.definition.specs.Patterns.{integer, xinteger, floatp, floate, ieee64, xieee64}
 use Rattle.definition.specs.declared.Match.{Match}
 use Rattle.definition.specs.declared.Match.the-variants.{To, Nothing}
@@ -22,11 +24,12 @@ use Rattle.lemmas.proofs.Cases.{by-order}
 use Rattle.lemmas.proofs.Cases.{either}
 use Rattle.progress.proofs.Matches.{small-hex}
 use Rattle.lemmas.proofs.Each.{none-left, _⨾_, each-map}
-use Rattle.progress.proofs.Ends.{Ends as Each-end, ends-then, ends-max}
+use Rattle.progress.proofs.Ends.{Ends as Each-end, ends-then, ends-later, ends-max}
 use Rattle.longest.proofs.Language.{Step, Chain, stop, step, At}
-use Rattle.longest.proofs.Ends.{Right, Single, single-found, right-later}
-use Rattle.longest.proofs.Starts.{left, right, step-on, step-same, step-map, chain-forward, at-ahead, listed-passes}
-use Rattle.longest.proofs.Shapes.{text-right, plus-right}
+use Rattle.longest.specs.LongestEnd.{two-digits}
+use Rattle.longest.proofs.Ends.{Right, Single, single-found, right-later, right-then}
+use Rattle.longest.proofs.Starts.{left, right, step-on, step-same, step-map, chain-forward, at-ahead, at-single, listed-passes}
+use Rattle.longest.proofs.Shapes.{one-right, text-right, plus-right}
 use Rattle.longest.proofs.Places.{bad-number, Reaches}
 use Rattle.longest.proofs.Integers.{between-wider, digit-hex, octal-hex, integer-right, xinteger-right, any-integer-right}
 use Rattle.longest.proofs.Floats.{pointed, scientific, match-pointed, match-short, floatp-right, floate-right, pointed-right, pointed-single, short-right, short-single}
@@ -34,7 +37,7 @@ use Rattle.longest.proofs.Floats.{pointed, scientific, match-pointed, m
 -- ---- runs
 
 -- Every character of an expression passes a test.
-abbrev Within : (ℕ → Bool) → Re → Type 0
+abbrev pub Within : (ℕ → Bool) → Re → Type 0
 Within p eps = Unit
 Within p (chr q) = (c : ℕ) → q c ≡ true → p c ≡ true
 Within p (seq r q) = Within p r × Within p q
@@ -64,6 +67,11 @@ module _ (s : Bytes) (p : ℕ → Bool) where
   -- No run leads back.
   run-forward : {i e : ℕ} → Chain (Step s p) i e → i ≤ e
   run-forward c = chain-forward s (λ i e t. omega (arith, step-on t .0)) c
+
+  -- One that leads on leads past the first character.
+  run-first : {q : ℕ → Bool} {i j e : ℕ} → Step s q i j → Chain (Step s p) i e → i < e → j ≤ e
+  run-first a (stop q) h = absurd (omega arith)
+  run-first a (step m b c) h = omega (arith, step-same a b .0, run-forward c)
 
   -- Of two runs from one offset the longer one goes on where the shorter ends.
   run-rest : {i j k : ℕ} → Chain (Step s p) i j → Chain (Step s p) i k → j < k → Chain (Step s p) j k
@@ -125,7 +133,7 @@ module _ (f : Bytes) where
   integer-within = (digit-ident, digit-ident)
 
   -- So are those of an integer with a letter for its base.
-  xinteger-within : Within (is-ident-char f) xinteger
+  pub xinteger-within : Within (is-ident-char f) xinteger
   unfolding is-ident-char mem-cp is-digit
   xinteger-within =
       let octal : (c : ℕ) → between (ch "0") (ch "7") c ≡ true → is-ident-char f c ≡ true = λ c t. hex-ident c (octal-hex c t) in
@@ -141,7 +149,7 @@ module _ (f : Bytes) where
       )
 
   -- So are those of one with LF behind it.
-  xieee64-within : Within (is-ident-char f) xieee64
+  pub xieee64-within : Within (is-ident-char f) xieee64
   unfolding is-ident-char is-digit
   xieee64-within = (xinteger-within, (is-passes (is-ident-char f) (ch "L") refl, (is-passes (is-ident-char f) (ch "F") refl, tt)))
 
@@ -152,11 +160,11 @@ abbrev number : Re
 number = alt integer (alt xinteger (alt ieee64 xieee64))
 
 -- One or more characters of identifiers.
-abbrev letters : Bytes → Re
+abbrev pub letters : Bytes → Re
 letters f = some (chr (is-ident-char f))
 
 -- What one of two answers reaches the later one does.
-reaches-later : (m n : Match) (k : ℕ) → Reaches k m ⊎ Reaches k n → Reaches k (later m n)
+pub reaches-later : (m n : Match) (k : ℕ) → Reaches k m ⊎ Reaches k n → Reaches k (later m n)
 reaches-later m n k = right-later (itself m) (itself n) .top k
   where
     itself : (m : Match) → Right (λ k. Reaches k m) m
@@ -170,7 +178,7 @@ reaches-max (m ∷ ms) zero k h = reaches-later m (max-list ms) k (inl h)
 reaches-max (m ∷ ms) (suc n) k h = reaches-later m (max-list ms) k (inr (reaches-max ms n k h))
 
 -- A right answer is an end of whatever its ends are ends of.
-right-end : {P Q : ℕ → Type 0} {m : Match} → Right P m → ((e : ℕ) → P e → Q e) → Each-end Q m
+pub right-end : {P Q : ℕ → Type 0} {m : Match} → Right P m → ((e : ℕ) → P e → Q e) → Each-end Q m
 right-end r f = record { at = λ {e} q. f e (r .fits e q) }
 
 module _ (s f : Bytes) (i : ℕ) where
@@ -203,18 +211,18 @@ module _ (s f : Bytes) (i : ℕ) where
 
   -- ---- every end is reached
 
-  -- What is reached behind the longest integer is reached: three of the seven ends are enough.
-  by-integer : (k : ℕ) → Reaches k (match-integer s i then plus (is-ident-char f) s) → Reaches k (match-bad-number s f i)
+  -- What is reached behind the longest integer is reached.
+  pub by-integer : (k : ℕ) → Reaches k (match-integer s i then plus (is-ident-char f) s) → Reaches k (match-bad-number s f i)
   unfolding match-bad-number
   by-integer k h = reaches-max _ 0 k h
 
   -- What is reached behind a number up to its point is reached.
-  by-point : (k : ℕ) → Reaches k (match-pointed s i then plus (is-ident-char f) s) → Reaches k (match-bad-number s f i)
+  pub by-point : (k : ℕ) → Reaches k (match-pointed s i then plus (is-ident-char f) s) → Reaches k (match-bad-number s f i)
   unfolding match-bad-number
   by-point k h = reaches-max _ 5 k h
 
   -- What is reached behind one with an exponent of one digit is reached.
-  by-exponent : (k : ℕ) → Reaches k (match-short s i then plus (is-ident-char f) s) → Reaches k (match-bad-number s f i)
+  pub by-exponent : (k : ℕ) → Reaches k (match-short s i then plus (is-ident-char f) s) → Reaches k (match-bad-number s f i)
   unfolding match-bad-number
   by-exponent k h = reaches-max _ 6 k h
 
@@ -228,39 +236,74 @@ module _ (s f : Bytes) (i : ℕ) where
       subst (λ (m : Match). Reaches k (m then plus (is-ident-char f) s)) (sym q) (plus-right s (is-ident-char f) j .top k (run-some s (is-ident-char f) c h))
 
   -- Behind a shortest part that has one end, digits are the first of those characters, so what they lead to is reached behind it.
-  short-reaches : {m : Match} (r : Re) → Single (At s r i) → Right (At s r i) m → (j n k : ℕ) → At s r i j → Chain (Step s is-digit) j n
+  pub short-reaches : {m : Match} (r : Re) → Single (At s r i) → Right (At s r i) m → (j n k : ℕ) → At s r i j → Chain (Step s is-digit) j n
       → At s (letters f) n k → Reaches k (m then plus (is-ident-char f) s)
   short-reaches r one h j n k a c b =
       let d = at-run s (is-ident-char f) (many (chr is-digit)) (digit-ident f) j n c in
       found-reaches j k (single-found one h a) (chain-join d (letters-run n k b)) (omega (arith, run-forward s (is-ident-char f) d, at-ahead s (letters f) n k refl b))
 
-  -- The matcher reaches k, or an integer does.
-  abbrev pub Reached : ℕ → Type 0
-  Reached k = Reaches k (match-bad-number s f i) ⊎ Reaches k (max-list (any-integer-ends s i))
+  -- An integer of two digits or more is found as one.
+  two-right : Right (At s (seq (chr is-digit) integer) i) (two-digits s i)
+  two-right = right-then (at-single s (chr is-digit) i refl) (one-right s is-digit i) (λ j h. plus-right s is-digit j)
+
+  -- The matcher reaches k, or an integer of two digits or more does.
+  abbrev Reached : ℕ → Type 0
+  Reached k = Reaches k (match-bad-number s f i) ⊎ Reaches k (two-digits s i)
 
   -- Where a number has characters of identifiers alone and begins with an integer, what is behind the longest integer is found, and
-  -- where nothing is behind it, it reaches as far itself.
-  run-reached : (r : Re) → Within (is-ident-char f) r → (j m k : ℕ) → At s integer i j → At s r i m → At s (letters f) m k → Reached k
-  run-reached r w j m k a x y =
+  -- where nothing is behind it, it reaches as far itself: then a digit stands behind its first.
+  pub run-found : (r : Re) → Within (is-ident-char f) r → nullable r ≡ false → (j m k : ℕ) → At s integer i j → At s r i m → At s (letters f) m k
+      → Reaches k (match-integer s i then plus (is-ident-char f) s) ⊎ ((e : ℕ) × At s (seq (chr is-digit) integer) i e × (k ≤ e))
+  run-found r w n j m k a x y =
       let t = integer-right s i .top j a in
       let b = integer-right s i .fits (t .0) (t .1) in
-      let e = any-integer-right s i .top (t .0) (inl b) in
-      let c = chain-join (at-run s (is-ident-char f) r w i m x) (letters-run m k y) in
+      let v = at-run s (is-ident-char f) r w i m x in
+      let c = chain-join v (letters-run m k y) in
       let d = at-run s (is-ident-char f) integer (integer-within f) i (t .0) b in
       by-order (t .0) k
-      (λ h. inl (by-integer k (found-reaches (t .0) k (t .1) (run-rest s (is-ident-char f) d c h) h)))
-      (λ h. inr (e .0, e .1, omega (arith, e .2)))
+      (λ h. inl (found-reaches (t .0) k (t .1) (run-rest s (is-ident-char f) d c h) h))
+      (λ h.
+      let past = run-first s (is-ident-char f) (b .1) v (at-ahead s r i m n x) in
+      let more = at-ahead s (letters f) m k refl y in
+      inr (t .0, (b .0, b .1, run-some s is-digit (b .2) (omega (arith, past, more))), h))
+
+  -- So such a number is reached.
+  run-reached : (r : Re) → Within (is-ident-char f) r → nullable r ≡ false → (j m k : ℕ) → At s integer i j → At s r i m → At s (letters f) m k → Reached k
+  run-reached r w n j m k a x y =
+      ⊎-elim (λ h. inl (by-integer k h)) (λ (e, h, l). let t = two-right .top e h in inr (t .0, t .1, omega (arith, t .2))) (run-found r w n j m k a x y)
 
   -- An integer with a letter begins with an integer, its 0.
-  zero-first : (e : ℕ) → At s xinteger i e → (j : ℕ) × At s integer i j
+  pub zero-first : (e : ℕ) → At s xinteger i e → (j : ℕ) × At s integer i j
   unfolding is-digit
   zero-first e (m, (j, a, b), c) = (j, (j, step-map (is-passes is-digit (ch "0") refl) a, stop refl))
 
   -- Every end of the pattern is reached.
-  pub bad-reached : (k : ℕ) → At s (bad-number f) i k → Reached k
-  bad-reached k (m, inl a, b) = run-reached integer (integer-within f) m m k a a b
-  bad-reached k (m, inr (inl a), b) = let z = zero-first m a in run-reached xinteger (xinteger-within f) (z .0) m k (z .1) a b
-  bad-reached k (m, inr (inr (inl (inl (a, x, (j, y, c))))), b) = inl (by-point k (short-reaches pointed (pointed-single s i) (pointed-right s i) j m k (a, x, y) c b))
-  bad-reached k (m, inr (inr (inl (inr (a, x, (n, y, (o, z, (p, w, (j, t, c)))))))), b) =
+  every-reached : (k : ℕ) → At s (bad-number f) i k → Reached k
+  every-reached k (m, inl a, b) = run-reached integer (integer-within f) refl m m k a a b
+  every-reached k (m, inr (inl a), b) = let z = zero-first m a in run-reached xinteger (xinteger-within f) refl (z .0) m k (z .1) a b
+  every-reached k (m, inr (inr (inl (inl (a, x, (j, y, c))))), b) = inl (by-point k (short-reaches pointed (pointed-single s i) (pointed-right s i) j m k (a, x, y) c b))
+  every-reached k (m, inr (inr (inl (inr (a, x, (n, y, (o, z, (p, w, (j, t, c)))))))), b) =
       inl (by-exponent k (short-reaches (scientific (chr is-digit)) (short-single s i) (short-right s i) j m k (a, x, (n, y, (o, z, (p, w, t)))) c b))
-  bad-reached k (m, inr (inr (inr a)), b) = let z = zero-first (a .0) (a .1) in run-reached xieee64 (xieee64-within f) (z .0) m k (z .1) a b
+  every-reached k (m, inr (inr (inr a)), b) = let z = zero-first (a .0) (a .1) in run-reached xieee64 (xieee64-within f) refl (z .0) m k (z .1) a b
+
+  -- Two digits or more are a number and a digit behind it.
+  two-fits : (e : ℕ) → At s (seq (chr is-digit) integer) i e → At s (bad-number f) i e
+  two-fits e (j, a, x) =
+      (j, inl (j, a, stop refl), run-some s (is-ident-char f) (at-run s (is-ident-char f) integer (integer-within f) j e x) (at-ahead s integer j e refl x))
+
+  -- So the later of what the matcher finds and of such an integer is the longest end of the pattern.
+  pub bad-right : Right (At s (bad-number f) i) (later (match-bad-number s f i) (two-digits s i))
+  bad-right = record {
+    fits = λ e q. ends-later bad-ends (right-end two-right two-fits) .at q;
+    top = λ k a. reaches-later (match-bad-number s f i) (two-digits s i) k (every-reached k a);
+  }
+
+  -- Every end is reached by the matcher or by the longest integer.
+  pub bad-reached : (k : ℕ) → At s (bad-number f) i k → Reaches k (match-bad-number s f i) ⊎ Reaches k (max-list (any-integer-ends s i))
+  bad-reached k a = ⊎-elim (λ h. inl h) (λ h. inr (by-two h)) (every-reached k a)
+    where
+      by-two : Reaches k (two-digits s i) → Reaches k (max-list (any-integer-ends s i))
+      by-two (e, q, h) =
+          let (j, x, (m, y, c)) = two-right .fits e q in
+          let t = any-integer-right s i .top e (inl (j, x, step m y c)) in
+          (t .0, t .1, omega (arith, t .2))

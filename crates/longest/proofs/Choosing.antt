@@ -1,4 +1,4 @@
--- The choice of `select` is the longest, and what each place finds is the longest end of its pattern, both where `Numbers` holds.
+-- The choice of `select` is the longest, and the longest end of each place is that of its pattern, both where `Numbers` holds.
 -- On the fast paths, that no other place permits anything is read off the patterns' first characters, which are computed.
 -- Rests on the places and on the choice among them.
 use Prim.Native.Nat.{ℕ, zero, suc, _+_, _≤_, _<_}
@@ -9,7 +9,7 @@ use mathlib.Core.Logic.{inl, inr}
 use native.Mathlib.Decide.{ℕ-discrete}
 use native.Mathlib.Nat.{add-zero}
 use native.Mathlib.Omega.{arith}
-use lib.Dec.{eqb, ltb}
+use lib.Dec.{eqb}
 use lib.ListN.{length, getD, List·getD-eq-default}
 use borrow.Author.Tests.{eqb-true, eqb-false, not-true}
 use Rattle.definition.specs.Basics.{Bytes, ch, mem-cp}
@@ -22,17 +22,18 @@ use Rattle.definition.specs.Select.{none-at, found, try-all, places, select}
 use Rattle.definition.specs.Regex.{Re, never}
 use Rattle.definition.specs.Patterns.{patterns, pattern}
 use Rattle.definition.specs.Longest.{Permitted, Longest}
+use Rattle.definition.specs.Samples.{nullable}
 use Rattle.definition.specs.declared.Choice.{Choice}
 use Rattle.definition.specs.declared.Sequence.the-variants.{Char}
 use Rattle.definition.specs.declared.Match.{Match}
-use Rattle.definition.specs.declared.Match.the-variants.{To, Nothing}
 use Rattle.lemmas.proofs.Cases.{by-order}
 use Rattle.lemmas.proofs.Cases.{by-test, by-lt, both, either}
 use Rattle.lemmas.proofs.Each.{Numbered, no-more, _⨟_}
 use Rattle.progress.proofs.Walks.{char-passes}
+use Rattle.longest.specs.LongestEnd.{choice-end, longest-end}
 use Rattle.longest.proofs.Language.{Step, stop, At, at-permits, permits-at}
 use Rattle.longest.proofs.Ends.{Right, right-to, right-nothing}
-use Rattle.longest.proofs.Starts.{may-be-empty, starts, at-ahead, at-first, step-code, step-on}
+use Rattle.longest.proofs.Starts.{starts, at-ahead, at-first, step-code, step-on}
 use Rattle.longest.proofs.Shapes.{plus-right}
 use Rattle.longest.proofs.Best.{Picks, Sound, picks-sound, Best, best-all, best-alone}
 use Rattle.longest.proofs.Literals.{newline-right}
@@ -43,7 +44,7 @@ use Rattle.longest.proofs.Places.{Numbers, white-fast, line-fast, Slow,
 -- Each expression permits no empty text.
 abbrev all-full : List Re → Bool
 all-full [] = true
-all-full (r ∷ rs) = not (may-be-empty r) && all-full rs
+all-full (r ∷ rs) = not (nullable r) && all-full rs
 
 -- Of expressions numbered from n on, none but number k may begin with c.
 abbrev only-one : ℕ → ℕ → List Re → ℕ → Bool
@@ -51,10 +52,10 @@ only-one k n [] c = true
 only-one k n (r ∷ rs) c = (eqb n k || not (starts r c)) && only-one k (suc n) rs c
 
 -- In such a list the expression numbered j permits none.
-full-at : (rs : List Re) → all-full rs ≡ true → (j : ℕ) → may-be-empty (getD rs j never) ≡ false
+full-at : (rs : List Re) → all-full rs ≡ true → (j : ℕ) → nullable (getD rs j never) ≡ false
 full-at [] h j = refl
-full-at (r ∷ rs) h zero = not-true (may-be-empty r) (both (not (may-be-empty r)) (all-full rs) h .0)
-full-at (r ∷ rs) h (suc j) = full-at rs (both (not (may-be-empty r)) (all-full rs) h .1) j
+full-at (r ∷ rs) h zero = not-true (nullable r) (both (not (nullable r)) (all-full rs) h .0)
+full-at (r ∷ rs) h (suc j) = full-at rs (both (not (nullable r)) (all-full rs) h .1) j
 
 -- No other expression begins with c.
 other-at : (k n : ℕ) (rs : List Re) (c : ℕ) → only-one k n rs c ≡ true → (j : ℕ) → (n + j ≡ k → ⊥) → starts (getD rs j never) c ≡ false
@@ -111,21 +112,6 @@ unfolding is-anywhite is-newline-char
 fast-is f = (by-white (λ c. is-anywhite f c ≡ true) refl refl refl refl, by-line (λ c. is-newline-char c ≡ true) refl refl)
 
 -- ---- one place and its choice
-
--- The end of a choice, where it is past i.
-abbrev pub choice-end : ℕ → Choice → Match
-choice-end i c = elim (ltb i (c .end)) [ true ↦ To (c .end) | false ↦ Nothing ]
-
--- What place k finds at i. Places 7 and 8 stand here without the test that leaves their ASCII to the fast paths.
-abbrev pub answer : Bytes → Bytes → ℕ → ℕ → Match
-answer s f i k =
-    elim (eqb k 7) [
-      | true ↦ plus (is-anywhite f) s i
-      | false ↦ elim (eqb k 8) [
-        | true ↦ match-newline s i
-        | false ↦ choice-end i (getD (none-at i ∷ places s f i) k (none-at i))
-      ]
-    ]
 
 -- The choice of a place is a right answer.
 picks-right : {P : ℕ → Type 0} {i k : ℕ} {c : Choice} → ((e : ℕ) → P e → i < e) → Picks P i k c → Right P (choice-end i c)
@@ -230,13 +216,14 @@ module _ (s f : Bytes) (i : ℕ) where
             rw (List·getD-eq-default (places s f i) (none-at i) {n = k} l)
             (record { forward = omega arith; fits = λ h. absurd (omega arith); top = λ e p. absurd (omega (arith, place-range (suc k) e p .1)) })
 
-    -- Each place but 27 finds the longest end of its pattern.
-    pub answer-right : (k : ℕ) → (k ≡ 27 → ⊥) → Right (At s (pattern f k) i) (answer s f i k)
+    -- The longest end of each place is right.
+    pub end-right : (k : ℕ) → Right (At s (pattern f k) i) (longest-end s f k i)
     unfolding pattern patterns
-    answer-right k c =
+    end-right k =
         by-test (Right (Has s f i k)) (eqb k 7) (λ e. rw (eqb-true k 7 e) (plus-right s (is-anywhite f) i)) λ a.
         by-test (Right (Has s f i k)) (eqb k 8) (λ e. rw (eqb-true k 8 e) (newline-right s i)) λ b.
-        picks-right (λ e. pattern-ahead s f k i e) (place-picks k (eqb-false k 7 a) (eqb-false k 8 b) c)
+        by-test (Right (Has s f i k)) (eqb k 27) (λ e. rw (eqb-true k 27 e) (n .bad)) λ c.
+        picks-right (λ e. pattern-ahead s f k i e) (place-picks k (eqb-false k 7 a) (eqb-false k 8 b) (eqb-false k 27 c))
 
     -- ---- the choice
 

@@ -13,12 +13,13 @@ use Rattle.definition.specs.Basics.{Bytes, mem-cp, if_then_else_}
 use Rattle.definition.specs.Text.{byte-has}
 use Rattle.definition.specs.Matchers.{_then_, max-list, only}
 use Rattle.definition.specs.Regex.{Re, chr, some}
+use Rattle.definition.specs.Samples.{nullable}
 use Rattle.definition.specs.declared.Match.{Match}
 use Rattle.lemmas.proofs.Cases.{by-order}
 use Rattle.progress.proofs.Matches.{Small, small-is, small-or}
 use Rattle.longest.proofs.Language.{Step, step, At}
 use Rattle.longest.proofs.Ends.{Right, Single, some-end, right-nothing, right-map, right-later, right-last, Then}
-use Rattle.longest.proofs.Starts.{may-be-empty, starts, step-map, step-same, at-first, at-ahead, apart, all-pass, listed-passes}
+use Rattle.longest.proofs.Starts.{starts, step-map, step-same, at-first, at-ahead, apart, all-pass, listed-passes}
 use Rattle.longest.proofs.Shapes.{byte-step, right-byte, run-more}
 
 -- ---- two letters
@@ -63,7 +64,7 @@ module _ (s : Bytes) where
       (right-byte s (small-two a b x y) i j e (λ _. h))
 
   -- Where such a byte stands nothing does that begins with neither.
-  pub two-else : (a b : ℕ) → a < 0x80 → b < 0x80 → (q : Re) → may-be-empty q ≡ false → all-pass (λ c. not (starts q c)) (a ∷ b ∷ []) ≡ true
+  pub two-else : (a b : ℕ) → a < 0x80 → b < 0x80 → (q : Re) → nullable q ≡ false → all-pass (λ c. not (starts q c)) (a ∷ b ∷ []) ≡ true
       → (i : ℕ) → byte-has (two a b) s i ≡ true → (k : ℕ) → At s q i k → ⊥
   two-else a b x y q full n i t k h =
       apart s (chr (λ c. mem-cp c (a ∷ b ∷ []))) q i (i + 1) k refl full (none-listed (a ∷ b ∷ []) (starts q) n)
@@ -128,7 +129,7 @@ module _ (s : Bytes) (p : ℕ → Bool) where
   alt-continues f g never j k (inr a) (inl b) h = absurd (never k j b a)
   alt-continues f g never j k (inr a) (inr b) h = g j k a b h
 
-  module _ {P : ℕ → Type 0} (goes : Continues s p P) (q : Re) (full : may-be-empty q ≡ false) (other : (c : ℕ) → p c ≡ true → starts q c ≡ true → ⊥) where
+  module _ {P : ℕ → Type 0} (goes : Continues s p P) (q : Re) (full : nullable q ≡ false) (other : (c : ℕ) → p c ≡ true → starts q c ≡ true → ⊥) where
     -- Something that begins with no such character stands at no end but the greatest.
     at-greatest : (j k e : ℕ) → P j → P k → j < k → At s q j e → ⊥
     at-greatest j k e a b h t =

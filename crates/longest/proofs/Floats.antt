@@ -13,13 +13,14 @@ use Rattle.definition.specs.Chars.{is-digit}
 use Rattle.definition.specs.Matchers.{_then_, later, only, match-integer, match-floatp, skip-sign, is-e, match-floate, match-real}
 use Rattle.definition.specs.Regex.{Re, chr, seq, many, opt}
 use Rattle.definition.specs.Patterns.{text, one-of, integer, floatp, floate}
+use Rattle.definition.specs.Samples.{nullable}
 use Rattle.definition.specs.declared.Match.{Match}
 use Rattle.definition.specs.declared.Match.the-variants.{To}
 use Rattle.lemmas.proofs.Cases.{either}
 use Rattle.progress.proofs.Matches.{small-is, small-digit}
 use Rattle.longest.proofs.Language.{At}
 use Rattle.longest.proofs.Ends.{Right, Single, right-map, right-later, right-then, single-then, single-alt}
-use Rattle.longest.proofs.Starts.{may-be-empty, starts, at-single, apart, all-pass}
+use Rattle.longest.proofs.Starts.{starts, at-single, apart, all-pass}
 use Rattle.longest.proofs.Shapes.{byte-right, step-single, right-here, right-byte, right-letter, star-right, run-more}
 use Rattle.longest.proofs.Literals.{not-both}
 use Rattle.longest.proofs.Continues.{two, none-listed, right-two, two-else, right-branch, Continues, single-parted, parted-then, run-continues, then-continues, continues-parted, continues-then}
@@ -78,7 +79,7 @@ module _ (s : Bytes) where
   digits-continue i = run-continues s is-digit is-digit (λ c t. t) i
 
   -- What begins with no digit is found behind the greatest end of an integer.
-  integer-then : (q : Re) → may-be-empty q ≡ false → ((c : ℕ) → is-digit c ≡ true → starts q c ≡ true → ⊥) → {g : ℕ → Match} → ((j : ℕ) → Right (At s q j) (g j))
+  integer-then : (q : Re) → nullable q ≡ false → ((c : ℕ) → is-digit c ≡ true → starts q c ≡ true → ⊥) → {g : ℕ → Match} → ((j : ℕ) → Right (At s q j) (g j))
       → (i : ℕ) → Right (At s (seq integer q) i) (match-integer s i then g)
   integer-then q full other h i = continues-then s is-digit (digits-continue i) q full other (integer-right s i) h
 
@@ -110,7 +111,7 @@ module _ (s : Bytes) where
 
   -- ---- an exponent
 
-  module _ (t : Re) (full : may-be-empty t ≡ false) (unsigned : all-pass (λ c. not (starts t c)) (codes "+-") ≡ true) {g : ℕ → Match}
+  module _ (t : Re) (full : nullable t ≡ false) (unsigned : all-pass (λ c. not (starts t c)) (codes "+-") ≡ true) {g : ℕ → Match}
       (ends : (j : ℕ) → Right (At s t j) (g j)) where
     -- A sign that may be left out is skipped, and what begins with no sign is found behind it.
     sign-right : (k : ℕ) → Right (At s (seq (opt (one-of "+-")) t) k) (g (skip-sign s k))

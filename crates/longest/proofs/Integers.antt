@@ -17,12 +17,13 @@ use Rattle.definition.specs.Tables.{cps}
 use Rattle.definition.specs.Matchers.{_then_, max-list, plus, match-integer, match-xinteger, any-integer-ends, match-int-suffix, match-int-usuffix}
 use Rattle.definition.specs.Regex.{Re, chr, seq, alt, some, word}
 use Rattle.definition.specs.Patterns.{text, one-of, integer, xinteger, any-integer, suffixed, usuffixed}
+use Rattle.definition.specs.Samples.{nullable}
 use Rattle.definition.specs.declared.Match.{Match}
 use Rattle.lemmas.proofs.Cases.{both, both-true}
 use Rattle.progress.proofs.Words.{all-plain}
 use Rattle.longest.proofs.Language.{At}
 use Rattle.longest.proofs.Ends.{Right, right-map, right-else}
-use Rattle.longest.proofs.Starts.{may-be-empty, starts, at-single, apart, listed-passes}
+use Rattle.longest.proofs.Starts.{starts, at-single, apart, listed-passes}
 use Rattle.longest.proofs.Shapes.{step-single, right-letter, text-right, plus-right}
 use Rattle.longest.proofs.Literals.{not-both}
 use Rattle.longest.proofs.Places.{suffix-like}
@@ -31,15 +32,15 @@ use Rattle.longest.proofs.Continues.{two, two-listed, none-listed, righ
 -- ---- integers
 
 -- One of some letters for the base, and digits.
-abbrev based : String → (ℕ → Bool) → Re
+abbrev pub based : String → (ℕ → Bool) → Re
 based letters p = seq (one-of letters) (some (chr p))
 
 -- What stands behind the 0 of a binary integer.
-abbrev binary : Re
+abbrev pub binary : Re
 binary = based "bB" (λ c. mem-cp c (codes "01"))
 
 -- What stands behind that of an octal or a binary one.
-abbrev octal-or-binary : Re
+abbrev pub octal-or-binary : Re
 octal-or-binary = alt (based "oO" (between (ch "0") (ch "7"))) binary
 
 -- A digit is a hexadecimal one.
@@ -64,7 +65,7 @@ octal-hex c t = digit-hex c (between-wider (ch "0") (ch "7") (ch "9") c (omega a
 -- What holds of the characters of a suffix.
 record Suffix (cs : List ℕ) : Type 0 where
   spelled : all-plain cs ≡ true
-  full : may-be-empty (word cs) ≡ false
+  full : nullable (word cs) ≡ false
   other : (c : ℕ) → is-hex c ≡ true → starts (word cs) c ≡ true → ⊥
 
 -- It is computed of them.
@@ -128,7 +129,7 @@ module _ (s : Bytes) where
       (λ j k. apart s (based "xX" is-hex) octal-or-binary m j k refl refl (none-listed (codes "xX") (starts octal-or-binary) refl))
 
   -- So what begins with no hexadecimal digit is found behind the greatest end of either kind.
-  behind-right : (q : Re) → may-be-empty q ≡ false → ((c : ℕ) → is-hex c ≡ true → starts q c ≡ true → ⊥) → {g : ℕ → Match} → ((j : ℕ) → Right (At s q j) (g j))
+  behind-right : (q : Re) → nullable q ≡ false → ((c : ℕ) → is-hex c ≡ true → starts q c ≡ true → ⊥) → {g : ℕ → Match} → ((j : ℕ) → Right (At s q j) (g j))
       → (i : ℕ) → Right (At s (seq any-integer q) i) (max-list (map (λ m. m then g) (any-integer-ends s i)))
   unfolding any-integer-ends
   behind-right q full other h i =

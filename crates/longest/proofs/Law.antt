@@ -2,21 +2,22 @@
 -- They hold for any class file: nothing is asked of it. Rests on the files beside this one, which prove them: a language over offsets
 -- (Language), right answers (Ends), first characters (Starts), the shapes of patterns (Shapes, Literals, Backticks, Families), numbers
 -- (Continues, Integers, Floats, BadNumbers, Numbers), the choice among ends (Best), and the 50 places (Places, Choosing).
-use Prim.Native.Nat.{ℕ, _≤_}
-use mathlib.Core.Path.{_≡_}
-use mathlib.Core.Logic.{_⊎_}
+use Prim.Native.Nat.{ℕ, _≤_, _<_}
+use mathlib.Core.Path.{_≡_, refl, sym, _∙_}
+use native.Mathlib.Omega.{arith}
 use lib.ListN.{length}
-use Rattle.definition.specs.Basics.{Bytes}
-use Rattle.definition.specs.Matchers.{max-list, any-integer-ends, match-bad-number}
+use Rattle.definition.specs.Basics.{Bytes, codes}
+use Rattle.definition.specs.Matchers.{match-bad-number}
 use Rattle.definition.specs.Select.{select}
-use Rattle.definition.specs.Patterns.{patterns, pattern}
+use Rattle.definition.specs.Patterns.{pattern}
 use Rattle.definition.specs.Longest.{Permitted, Longest}
-use Rattle.definition.specs.declared.Match.the-variants.{To}
-use Rattle.longest.proofs.Language.{at-permits, permits-at}
-use Rattle.longest.proofs.Ends.{Right, right-map}
-use Rattle.longest.proofs.Places.{Reaches}
-use Rattle.longest.proofs.Numbers.{numbers}
-use Rattle.longest.proofs.Choosing.{answer, answer-right, choice-longest}
+use Rattle.definition.specs.declared.Match.{Match}
+use Rattle.definition.specs.declared.Match.the-variants.{To, Nothing}
+use Rattle.longest.specs.LongestEnd.{longest-end, Longest-end}
+use Rattle.longest.proofs.Language.{At, at-permits, permits-at}
+use Rattle.longest.proofs.Ends.{Right, some-end}
+use Rattle.longest.proofs.Numbers.{numbers, twelve-fits, twelve-chosen}
+use Rattle.longest.proofs.Choosing.{pattern-ahead, end-right, choice-longest}
 
 -- At every offset of a text `select` takes the longest part that any place permits, and of those the one of the earliest place; and it
 -- takes none exactly where no place permits a part of one byte or more. It is so for any bytes and any class file, and so at every
@@ -24,17 +25,25 @@ use Rattle.longest.proofs.Choosing.{answer, answer-right, choice-longes
 pub select-longest : (s f : Bytes) (i : ℕ) → i ≤ length s → Longest s f i (select s f i)
 select-longest s f i h = choice-longest s f i (numbers s f i) h
 
-module _ (s f : Bytes) (i : ℕ) (h : i ≤ length s) where
-  -- Each place but 27 finds the longest part that its pattern permits, or that it permits none.
-  pub place-right : (k : ℕ) → (k ≡ 27 → ⊥) → Right (Permitted s f k i) (answer s f i k)
-  place-right k d = right-map (λ e. at-permits s (pattern f k) i e h) (λ e. permits-at s (pattern f k) i e) (answer-right s f i (numbers s f i) k d)
+-- The longest end of each place is permitted by its pattern, every end that its pattern permits is at most it, and it is none exactly
+-- where the pattern permits nothing of a byte or more. A number that is no place permits nothing.
+pub place-longest : (s f : Bytes) (k i : ℕ) → i ≤ length s → Longest-end s f k i (longest-end s f k i)
+place-longest s f k i h = record {
+  fits = λ e q. let a = r .fits e q in (pattern-ahead s f k i e a, at-permits s (pattern f k) i e h a);
+  longest = λ e p. r .top e (permits-at s (pattern f k) i e p);
+  nothing = (λ n e l p. some-end (sym n ∙ r .top e (permits-at s (pattern f k) i e p) .1), none (longest-end s f k i) r);
+}
+  where
+    r : Right (At s (pattern f k) i) (longest-end s f k i)
+    r = end-right s f i (numbers s f i) k
 
-  -- What place 27 finds its pattern permits: a number that goes on as an identifier.
-  pub bad-number-fits : (e : ℕ) → match-bad-number s f i ≡ To e → Permitted s f 27 i e
-  unfolding pattern patterns
-  bad-number-fits e q = at-permits s (pattern f 27) i e h (numbers s f i .bad-fits e q)
+    none : (m : Match) → Right (At s (pattern f k) i) m → ((e : ℕ) → i < e → Permitted s f k i e → ⊥) → m ≡ Nothing
+    none Nothing _ _ = refl
+    none (To e) t g = let a = t .fits e refl in absurd (g e (pattern-ahead s f k i e a) (at-permits s (pattern f k) i e h a))
 
-  -- Every part that its pattern permits is at most as long as what place 27 finds, or as the integer that place 16 finds.
-  pub bad-number-reached : (e : ℕ) → Permitted s f 27 i e → Reaches e (match-bad-number s f i) ⊎ Reaches e (max-list (any-integer-ends s i))
-  unfolding pattern patterns
-  bad-number-reached e p = numbers s f i .bad-reached e (permits-at s (pattern f 27) i e p)
+-- The tie of `12`: place 27 permits it whole, its matcher finds nothing, and `select` takes the integer, whose place is the earlier.
+pub twelve : (f : Bytes)
+    → Permitted (codes "12") f 27 0 2
+    × (match-bad-number (codes "12") f 0 ≡ Nothing)
+    × (select (codes "12") f 0 ≡ record { place = 16; end = 2; word = 0 })
+twelve f = (at-permits (codes "12") (pattern f 27) 0 2 (omega arith) (twelve-fits f), twelve-chosen f .0, twelve-chosen f .1)

@@ -13,6 +13,7 @@ pub mod Continues
 pub mod Integers
 pub mod Floats
 pub mod BadNumbers
+pub mod ThreeEnds
 pub mod Places
 pub mod Choosing
 pub mod Numbers

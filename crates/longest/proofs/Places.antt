@@ -17,10 +17,11 @@ use Rattle.definition.specs.Text.{char-has}
 use Rattle.definition.specs.ClassFile.{is-zs}
 use Rattle.definition.specs.Chars.{ascii-limit, count-up, ascii-table, in-table, is-digit, is-hex, is-op-char, is-symbolchar, is-ident-char, is-anywhite, is-newline-char, is-uoperator}
 use Rattle.definition.specs.Tables.{cps, early-literals, kw-op-rules, op-tokens, mixfix-rules}
-use Rattle.definition.specs.Matchers.{only, max-list, match-lit, any-integer-ends, match-int-suffix, match-int-usuffix, match-real, match-bad-number, plus, match-newline}
+use Rattle.definition.specs.Matchers.{later, only, max-list, match-lit, any-integer-ends, match-int-suffix, match-int-usuffix, match-real, match-bad-number, plus, match-newline}
 use Rattle.definition.specs.Select.{found, one-of-then-symbols, lit-then-symbols, places}
 use Rattle.definition.specs.Regex.{Re, chr, seq, alt, some}
 use Rattle.definition.specs.Patterns.{text, one-of, nl, identifier, constructor, symbols, any-char, integer, xinteger, any-integer, suffixed, usuffixed, floatp, ieee64, xieee64, plain, patterns, pattern}
+use Rattle.definition.specs.Samples.{nullable}
 use Rattle.definition.specs.declared.Choice.{Choice}
 use Rattle.definition.specs.declared.Sequence.the-variants.{Char}
 use Rattle.definition.specs.declared.Match.{Match}
@@ -29,9 +30,10 @@ use Rattle.lemmas.proofs.Cases.{by-order}
 use Rattle.lemmas.proofs.Cases.{by-test, either}
 use Rattle.lemmas.proofs.Each.{Numbered, no-more, _⨟_}
 use Rattle.progress.proofs.Words.{all-plain}
+use Rattle.longest.specs.LongestEnd.{two-digits}
 use Rattle.longest.proofs.Language.{At}
 use Rattle.longest.proofs.Ends.{Right, some-end, right-later}
-use Rattle.longest.proofs.Starts.{left, right, may-be-empty, starts, all-pass, at-forward, guard, guard-at, at-first, at-ahead, step-has, step-map}
+use Rattle.longest.proofs.Starts.{left, right, starts, all-pass, at-forward, guard, guard-at, at-first, at-ahead, step-has, step-map}
 use Rattle.longest.proofs.Shapes.{one-right, text-right, plus-right, star-right}
 use Rattle.longest.proofs.Best.{Picks, picks-found, end-of, Sound, picks-sound}
 use Rattle.longest.proofs.Literals.{newline-right, char-lit-right, byte-lit-right}
@@ -53,13 +55,14 @@ bad-number f = seq (alt integer (alt xinteger (alt ieee64 xieee64))) (some (chr 
 abbrev pub Reaches : ℕ → Match → Type 0
 Reaches k m = (e : ℕ) × (m ≡ To e) × (k ≤ e)
 
--- The matchers of places 16 to 27, without the test for a digit in front. A bad number that place 27 doesn't reach is reached as an
--- integer.
+-- The matchers of places 16 to 27, without the test for a digit in front. The longest end of a bad number is what place 27 finds or an
+-- integer; so one that place 27 doesn't reach is reached by place 16.
 pub record Numbers (s f : Bytes) (i : ℕ) : Type 0 where
   pub int : Right (At s any-integer i) (max-list (any-integer-ends s i))
   pub suffix : (w : String) → suffix-like (codes w) ≡ true → Right (At s (suffixed w) i) (match-int-suffix s i (cps w))
   pub usuffix : (w : String) → all-plain (codes w) ≡ true → Right (At s (usuffixed w) i) (match-int-usuffix s i (cps w))
   pub real : Right (At s (seq floatp (text "R")) i) (match-real s i)
+  pub bad : Right (At s (bad-number f) i) (later (match-bad-number s f i) (two-digits s i))
   pub bad-fits : (e : ℕ) → match-bad-number s f i ≡ To e → At s (bad-number f) i e
   pub bad-reached : (k : ℕ) → At s (bad-number f) i k → Reaches k (match-bad-number s f i) ⊎ Reaches k (max-list (any-integer-ends s i))
 
@@ -147,7 +150,7 @@ module _ (s f : Bytes) (i : ℕ) where
   simple r h = picks-found 0 (at-forward s r i) h
 
   -- The same holds with a test in front that each first character passes.
-  tested : (p : ℕ → Bool) (r : Re) {k : ℕ} {m : Match} → may-be-empty r ≡ false → ((c : ℕ) → starts r c ≡ true → p c ≡ true) → Right (At s r i) m
+  tested : (p : ℕ → Bool) (r : Re) {k : ℕ} {m : Match} → nullable r ≡ false → ((c : ℕ) → starts r c ≡ true → p c ≡ true) → Right (At s r i) m
       → Picks (At s r i) i k (found i k 0 (only (char-has p s i) m))
   tested p r n g h = simple r (guard s r i n g h)
 
@@ -156,7 +159,7 @@ module _ (s f : Bytes) (i : ℕ) where
   is x c = eqb c (ch x)
 
   -- It holds of a word behind a test for its first character.
-  word-place : (x : Letter) (w : String) {k : ℕ} → all-plain (codes w) ≡ true → may-be-empty (text w) ≡ false → ((c : ℕ) → starts (text w) c ≡ true → is x c ≡ true)
+  word-place : (x : Letter) (w : String) {k : ℕ} → all-plain (codes w) ≡ true → nullable (text w) ≡ false → ((c : ℕ) → starts (text w) c ≡ true → is x c ≡ true)
       → Picks (At s (text w) i) i k (found i k 0 (only (char-has (is x) s i) (match-lit s (cps w) i)))
   word-place x w p n g = tested (is x) (text w) n g (text-right s w p i)
 

@@ -14,6 +14,7 @@ use Rattle.definition.specs.Basics.{Bytes, mem-cp}
 use Rattle.definition.specs.Utf8.{sequence-at}
 use Rattle.definition.specs.Text.{char-has}
 use Rattle.definition.specs.Regex.{Re, eps, chr, seq, alt, many}
+use Rattle.definition.specs.Samples.{nullable}
 use Rattle.definition.specs.Matchers.{only}
 use Rattle.definition.specs.declared.Sequence.the-variants.{Char}
 use Rattle.definition.specs.declared.Match.{Match}
@@ -23,19 +24,11 @@ use Rattle.lemmas.proofs.Cases.{both, by-test}
 use Rattle.longest.proofs.Language.{Step, Chain, stop, step, At}
 use Rattle.longest.proofs.Ends.{Right, right-only, Single, single-then}
 
--- The expression may permit the empty text.
-abbrev pub may-be-empty : Re → Bool
-may-be-empty eps = true
-may-be-empty (chr p) = false
-may-be-empty (seq r q) = may-be-empty r && may-be-empty q
-may-be-empty (alt r q) = may-be-empty r || may-be-empty q
-may-be-empty (many r) = true
-
 -- A character may be the first of a part that the expression permits.
 abbrev pub starts : Re → ℕ → Bool
 starts eps c = false
 starts (chr p) c = p c
-starts (seq r q) c = elim (may-be-empty r) [ true ↦ starts r c || starts q c | false ↦ starts r c ]
+starts (seq r q) c = elim (nullable r) [ true ↦ starts r c || starts q c | false ↦ starts r c ]
 starts (alt r q) c = starts r c || starts q c
 starts (many r) c = starts r c
 
@@ -117,15 +110,15 @@ module _ (s : Bytes) where
   at-forward (many r) i e h = chain-forward (at-forward r) h
 
   -- One that permits no empty text leads on.
-  pub at-ahead : (r : Re) (i e : ℕ) → may-be-empty r ≡ false → At s r i e → i < e
+  pub at-ahead : (r : Re) (i e : ℕ) → nullable r ≡ false → At s r i e → i < e
   at-ahead eps i e n h = absurd (false≢true (sym n))
   at-ahead (chr p) i e n h = step-on h .0
   at-ahead (seq r q) i e n (m, a, b) =
-      by-empty (may-be-empty r) (may-be-empty q) n
+      by-empty (nullable r) (nullable q) n
       (λ x. omega (arith, at-ahead r i m x a, at-forward q m e b))
       (λ x. omega (arith, at-forward r i m a, at-ahead q m e x b))
-  at-ahead (alt r q) i e n (inl h) = at-ahead r i e (neither (may-be-empty r) (may-be-empty q) n .0) h
-  at-ahead (alt r q) i e n (inr h) = at-ahead q i e (neither (may-be-empty r) (may-be-empty q) n .1) h
+  at-ahead (alt r q) i e n (inl h) = at-ahead r i e (neither (nullable r) (nullable q) n .0) h
+  at-ahead (alt r q) i e n (inr h) = at-ahead q i e (neither (nullable r) (nullable q) n .1) h
   at-ahead (many r) i e n h = absurd (false≢true (sym n))
 
   -- One with no alternative and no repetition leads to one end at most.
@@ -144,11 +137,11 @@ module _ (s : Bytes) where
 
   -- A first character of the first part is one of both parts.
   first-seq : (r q : Re) {i k : ℕ} → Step s (starts r) i k → Step s (starts (seq r q)) i k
-  first-seq r q = step-map (λ c t. by-test (λ (b : Bool). b ≡ true) (may-be-empty r) (λ _. left (starts r c) (starts q c) t) (λ _. t))
+  first-seq r q = step-map (λ c t. by-test (λ (b : Bool). b ≡ true) (nullable r) (λ _. left (starts r c) (starts q c) t) (λ _. t))
 
   -- So is one of the second part, where the first may be empty.
-  first-behind : (r q : Re) {i k : ℕ} → may-be-empty r ≡ true → Step s (starts q) i k → Step s (starts (seq r q)) i k
-  first-behind r q e = step-map (λ c t. by-test (λ (b : Bool). b ≡ true) (may-be-empty r) (λ _. right (starts r c) (starts q c) t) (λ n. absurd (false≢true (sym n ∙ e))))
+  first-behind : (r q : Re) {i k : ℕ} → nullable r ≡ true → Step s (starts q) i k → Step s (starts (seq r q)) i k
+  first-behind r q e = step-map (λ c t. by-test (λ (b : Bool). b ≡ true) (nullable r) (λ _. right (starts r c) (starts q c) t) (λ n. absurd (false≢true (sym n ∙ e))))
 
   -- A chain that moves on has the first character of its first step that does.
   chain-first : {P : ℕ → ℕ → Type 0} {X : ℕ → Type 0} → ((i e : ℕ) → P i e → i < e → X i) → ((i e : ℕ) → P i e → i ≤ e) → {i e : ℕ} → Chain P i e → i < e → X i
@@ -161,9 +154,9 @@ module _ (s : Bytes) where
   pub at-first : (r : Re) (i e : ℕ) → At s r i e → i < e → First r i
   at-first eps i e h l = absurd (omega arith)
   at-first (chr p) i e h l = (e, h)
-  at-first (seq r q) i e (m, a, b) l = go (at-first r i m a) (λ h. at-first q i e h l) (may-be-empty r) refl
+  at-first (seq r q) i e (m, a, b) l = go (at-first r i m a) (λ h. at-first q i e h l) (nullable r) refl
     where
-      go : (i < m → First r i) → (At s q i e → First q i) → (t : Bool) → may-be-empty r ≡ t → First (seq r q) i
+      go : (i < m → First r i) → (At s q i e → First q i) → (t : Bool) → nullable r ≡ t → First (seq r q) i
       go f g false n = let x = f (at-ahead r i m n a) in (x .0, first-seq r q (x .1))
       go f g true n =
           by-order i m (λ h. let x = f h in (x .0, first-seq r q (x .1)))
@@ -176,7 +169,7 @@ module _ (s : Bytes) where
   -- ---- what first characters decide
 
   -- Two expressions with no first character in common exclude each other.
-  pub apart : (r q : Re) (i j k : ℕ) → may-be-empty r ≡ false → may-be-empty q ≡ false → ((c : ℕ) → starts r c ≡ true → starts q c ≡ true → ⊥)
+  pub apart : (r q : Re) (i j k : ℕ) → nullable r ≡ false → nullable q ≡ false → ((c : ℕ) → starts r c ≡ true → starts q c ≡ true → ⊥)
       → At s r i j → At s q i k → ⊥
   apart r q i j k m n d a b =
       let x = at-first r i j a (at-ahead r i j m a) .1 in
@@ -184,7 +177,7 @@ module _ (s : Bytes) where
       d (x .code) (x .passes) (step-same x y .1)
 
   -- A test in front that the first character passes changes nothing.
-  pub guard-at : (r : Re) (i : ℕ) {p : ℕ → Bool} {m : Match} → may-be-empty r ≡ false
+  pub guard-at : (r : Re) (i : ℕ) {p : ℕ → Bool} {m : Match} → nullable r ≡ false
       → ((c w : ℕ) → sequence-at s i ≡ Char c w → starts r c ≡ true → p c ≡ true) → Right (At s r i) m → Right (At s r i) (only (char-has p s i) m)
   guard-at r i {p} n f h = right-only (char-has p s i) has (λ _. h)
     where
@@ -194,7 +187,7 @@ module _ (s : Bytes) where
           step-has {e = i + t .width} (record { code = t .code; width = t .width; read = t .read; ends = refl; passes = f (t .code) (t .width) (t .read) (t .passes) })
 
   -- The same of one that every first character passes.
-  pub guard : (r : Re) (i : ℕ) {p : ℕ → Bool} {m : Match} → may-be-empty r ≡ false → ((c : ℕ) → starts r c ≡ true → p c ≡ true)
+  pub guard : (r : Re) (i : ℕ) {p : ℕ → Bool} {m : Match} → nullable r ≡ false → ((c : ℕ) → starts r c ≡ true → p c ≡ true)
       → Right (At s r i) m → Right (At s r i) (only (char-has p s i) m)
   guard r i n f h = guard-at r i n (λ c w q t. f c t) h
 

@@ -1,5 +1,5 @@
 -- The definition's numbers from the end of their digits on: suffixes, fractions, exponents, and numbers that go wrong. Rests on the laws of
--- matchers put together.
+-- matchers put together, and on the law of the longest match that three ends of a bad number are enough.
 use Prim.Native.Nat.{ℕ, _+_}
 use mathlib.Core.Path.{_≡_, refl, sym, ap, ap₂, _∙_}
 use mathlib.Core.Bool.{Bool, true, false}
@@ -24,13 +24,15 @@ use Rattle.definition.specs.Matchers.{
   skip-sign,
   is-e,
   match-floate,
+  match-real,
   match-bad-number,
 }
 use Rattle.definition.specs.declared.Match.{Match}
 use Rattle.definition.specs.declared.Match.the-variants.{To, Nothing}
 use Rattle.numbers.specs.declared.IntegerEnds.{IntegerEnds}
-use Rattle.numbers.specs.Parts.{integer-ends, usuffix, point, fraction, exponent, exponent-behind, short-exponent, short-float}
+use Rattle.numbers.specs.Parts.{integer-ends, usuffix, point, fraction, exponent, exponent-behind, real-end, short-exponent, short-float, bad-number-behind}
 use Rattle.scan.proofs.ByteLaws.{later-nothing}
+use Rattle.longest.proofs.ThreeEnds.{three-ends}
 
 -- ---- matchers put together, from what their parts found
 
@@ -136,10 +138,20 @@ behind-fraction s j f = go (byte-is (ch ".") s j)
     go true = refl
     go false = refl
 
+-- `match-real` is an R behind a float.
+pub real-is : (s : Bytes) (i : ℕ) → (match-floatp s i then real-end s) ≡ match-real s i
+unfolding match-real real-end
+real-is s i = refl
+
 -- `match-floatp` is a fraction behind the digits.
 pub floatp-is : (s : Bytes) (i : ℕ) → (match-integer s i then fraction s) ≡ match-floatp s i
 unfolding match-floatp fraction
 floatp-is s i = refl
+
+-- An R behind a float that is known by equations.
+pub real-of : (s : Bytes) (i : ℕ) {digits float r : Match} → r ≡ (float then real-end s) → digits ≡ match-integer s i → float ≡ (digits then fraction s)
+    → r ≡ match-real s i
+real-of s i p q h = then-of (real-end s) p (then-of (fraction s) h q ∙ floatp-is s i) ∙ real-is s i
 
 -- `match-floate` is an exponent behind them.
 pub floate-is : (s : Bytes) (i : ℕ) → (match-integer s i then exponent-behind s) ≡ match-floate s i
@@ -154,29 +166,19 @@ floate-is s i = go (match-integer s i)
 
 -- The shortest float with an exponent, in the definition's words.
 short-is : (s : Bytes) (m : Match)
-    → short-float s m ≡ later (m then short-exponent s) (m then point s then λ k. short-exponent s (star is-digit s k))
+    → short-float s m (m then fraction s) ≡ later (m then short-exponent s) (m then point s then λ k. short-exponent s (star is-digit s k))
 unfolding short-float
 short-is s m = ap (later (m then short-exponent s)) (ap (λ (n : Match). n then short-exponent s) (sym (point-digits s m)) ∙ then-then (m then point s) (λ j. To (star is-digit s j)) (short-exponent s))
 
--- The latest of seven ends.
-pub seven-ends : (a b c d e f g : Match) → later a (later b (later c (later d (later e (later f g))))) ≡ max-list (a ∷ b ∷ c ∷ d ∷ e ∷ f ∷ g ∷ [])
-unfolding max-list
-seven-ends a b c d e f g = ap (λ (m : Match). later a (later b (later c (later d (later e (later f m)))))) (sym (later-nothing g))
+-- A number that goes wrong is identifier characters behind one of three ends, which are enough.
+pub bad-number-is : (s f : Bytes) (i : ℕ) → bad-number-behind s f (match-integer s i) (match-integer s i then fraction s) ≡ match-bad-number s f i
+unfolding bad-number-behind point short-exponent
+bad-number-is s f i =
+    let wrong : Match → Match = λ m. m then plus (is-ident-char f) s in
+    ap (λ (m : Match). later (wrong (match-integer s i)) (later (wrong (match-integer s i then point s)) (wrong m))) (short-is s (match-integer s i)) ∙ three-ends s f i
 
--- the identifier characters behind an end
-abbrev pub wrong : Bytes → Bytes → Match → Match
-wrong s file m = m then plus (is-ident-char file) s
-
--- A number that goes wrong is one of seven with identifier characters behind it.
-pub bad-number-is : (s file : Bytes) (i : ℕ)
-    → later (wrong s file (match-integer s i)) (later (wrong s file (match-xinteger s i)) (later (wrong s file (match-integer s i then fraction s))
-    (later (wrong s file (match-integer s i then exponent-behind s)) (later (wrong s file (match-xinteger s i then match-lit s (cps "LF")))
-    (later (wrong s file (match-integer s i then point s)) (wrong s file (short-float s (match-integer s i))))))))
-    ≡ match-bad-number s file i
-unfolding match-bad-number point short-exponent
-bad-number-is s file i =
-    let w : Match → Match = wrong s file in
-    rw (floatp-is s i, floate-is s i, short-is s (match-integer s i))
-    (seven-ends (w (match-integer s i)) (w (match-xinteger s i)) (w (match-floatp s i)) (w (match-floate s i))
-    (w (match-xinteger s i then match-lit s (cps "LF"))) (w (match-integer s i then point s))
-    (w (later (match-integer s i then short-exponent s) (match-integer s i then point s then λ k. short-exponent s (star is-digit s k)))))
+-- The same of digits and a fraction that are known by equations.
+pub bad-number-of : (s f : Bytes) (i : ℕ) {digits float r : Match} → r ≡ bad-number-behind s f digits float → digits ≡ match-integer s i
+    → float ≡ (digits then fraction s) → r ≡ match-bad-number s f i
+bad-number-of s f i p q h =
+    p ∙ ap (bad-number-behind s f _) h ∙ ap (λ (m : Match). bad-number-behind s f m (m then fraction s)) q ∙ bad-number-is s f i

@@ -5,8 +5,8 @@ use mathlib.Core.Bool.{_||_}
 use lib.Dec.{eqb}
 use Rattle.definition.specs.Basics.{Bytes, ch}
 use Rattle.definition.specs.Text.{byte-has, byte-is, star}
-use Rattle.definition.specs.Chars.{is-digit}
-use Rattle.definition.specs.Matchers.{_then_, later, only, match-lit, match-integer, match-xinteger, skip-sign, is-e}
+use Rattle.definition.specs.Chars.{is-digit, is-ident-char}
+use Rattle.definition.specs.Matchers.{_then_, later, only, match-lit, plus, match-integer, match-xinteger, skip-sign, is-e}
 use Rattle.definition.specs.declared.Match.{Match}
 use Rattle.definition.specs.declared.Match.the-variants.{To}
 use Rattle.numbers.specs.declared.IntegerEnds.{IntegerEnds}
@@ -35,10 +35,20 @@ exponent s k = only (byte-has is-e s k) (match-integer s (skip-sign s (k + 1)))
 unfoldable pub exponent-behind : Bytes → ℕ → Match
 exponent-behind s j = later (exponent s j) (fraction s j then exponent s)
 
+-- an R, behind a float that ends at j
+unfoldable pub real-end : Bytes → ℕ → Match
+real-end s j = only (byte-is (ch "R") s j) (To (j + 1))
+
 -- an exponent of one digit
 unfoldable pub short-exponent : Bytes → ℕ → Match
 short-exponent s k = only (byte-has is-e s k) (only (byte-has is-digit s (skip-sign s (k + 1))) (To (skip-sign s (k + 1) + 1)))
 
--- the shortest float with an exponent, behind digits
-unfoldable pub short-float : Bytes → Match → Match
-short-float s digits = later (digits then short-exponent s) (digits then fraction s then short-exponent s)
+-- the shortest float with an exponent, behind digits or behind a fraction
+unfoldable pub short-float : Bytes → Match → Match → Match
+short-float s digits float = later (digits then short-exponent s) (float then short-exponent s)
+
+-- identifier characters behind digits, behind the point there, or behind the shortest exponent
+unfoldable pub bad-number-behind : Bytes → Bytes → Match → Match → Match
+bad-number-behind s f digits float =
+    let wrong : Match → Match = λ m. m then plus (is-ident-char f) s in
+    later (wrong digits) (later (wrong (digits then point s)) (wrong (short-float s digits float)))

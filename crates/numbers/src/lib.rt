@@ -1,5 +1,5 @@
-// Integers with their suffixes, floats, and numbers that go wrong. The digits are read once: what may follow them is
-// looked for behind their end.
+// Integers with their suffixes, floats, and numbers that go wrong. A digit of an integer or of a fraction is read once: what
+// may follow them is looked for behind their ends by the functions named `.._after`, which take these ends.
 // Proved: the answer of each public function is what the definition gives, at any offset of any bytes.
 // Assumed: nothing but what each function's `requires` says: a class file that `class_check` accepts where a class is
 // asked.
@@ -20,7 +20,7 @@ ghost use mathlib.Core.Path.{_≡_};
 ghost use Rattle.definition.specs.ClassFile.{class-check};
 ghost use Rattle.definition.specs.Chars.{is-ident-char};
 ghost use Rattle.definition.specs.Matchers.{_then_, later, match-lit, plus, match-integer, match-xinteger, match-int-suffix, match-int-usuffix, match-floatp, skip-sign, match-floate, match-real, match-bad-number};
-ghost use Rattle.numbers.specs.Parts.{integer-ends, usuffix, point, fraction, exponent, short-exponent, exponent-behind, short-float};
+ghost use Rattle.numbers.specs.Parts.{integer-ends, usuffix, point, fraction, exponent, real-end, short-exponent, exponent-behind, short-float, bad-number-behind};
 
 // The end of an integer's digits, and that of the digits behind 0x, 0o or 0b: the source's `any_integer_ends`.
 pub struct IntegerEnds {
@@ -171,7 +171,7 @@ fn exponent_after(text: &[u8], m: Match) -> Match
 }
 
 // The end of an exponent behind an integer's digits, or behind a point and digits there.
-pub fn floate_after(text: &[u8], digits: Match) -> Match
+fn floate_after(text: &[u8], digits: Match) -> Match
     ensures { λ r. ⌜ r ≡ (digits then exponent-behind (now (text .entry))) ⌝ }
 {
     let without_dot = exponent_after(text, digits);
@@ -185,16 +185,23 @@ pub fn match_floate(text: &[u8], i: usize) -> Match
     floate_after(text, match_integer(text, i))
 }
 
-pub fn match_real(text: &[u8], i: usize) -> Match
-    ensures { λ r. ⌜ r ≡ match-real (now (text .entry)) i ⌝ }
+// The end of an R behind a float.
+pub fn real_after(text: &[u8], float: Match) -> Match
+    ensures { λ r. ⌜ r ≡ (float then real-end (now (text .entry))) ⌝ }
 {
-    let Match::To(j) = match_floatp(text, i) else {
+    let Match::To(j) = float else {
         return Match::Nothing;
     };
     if byte_is(text, j, b'R') {
         return Match::To(j + 1);
     }
     Match::Nothing
+}
+
+pub fn match_real(text: &[u8], i: usize) -> Match
+    ensures { λ r. ⌜ r ≡ match-real (now (text .entry)) i ⌝ }
+{
+    real_after(text, match_floatp(text, i))
 }
 
 // ---- numbers that go on as an identifier
@@ -222,12 +229,13 @@ fn short_exponent_after(text: &[u8], m: Match) -> Match
     short_exponent(text, k)
 }
 
-// The end of the shortest float with an exponent, behind an integer's digits: the source's `floate_min`.
-fn short_float(text: &[u8], digits: Match) -> Match
-    ensures { λ r. ⌜ r ≡ short-float (now (text .entry)) digits ⌝ }
+// The end of the shortest float with an exponent, behind an integer's digits or behind the fraction there: the source's
+// `floate_min`.
+fn short_float(text: &[u8], digits: Match, float: Match) -> Match
+    ensures { λ r. ⌜ r ≡ short-float (now (text .entry)) digits float ⌝ }
 {
     let without_dot = short_exponent_after(text, digits);
-    let with_dot = short_exponent_after(text, floatp_after(text, digits));
+    let with_dot = short_exponent_after(text, float);
     later(without_dot, with_dot)
 }
 
@@ -242,31 +250,26 @@ fn ident_chars_after(text: &[u8], file: &[u8], m: Match) -> Match
     plus_ident_char(text, file, e)
 }
 
-// The end of a number with identifier characters behind it. "Since digits are ident chars, the shortest float matches are
-// the relevant ones", beside the longest.
+// The end of a number with identifier characters behind it, from the ends of its digits and of its fraction. "Since digits
+// are ident chars, the shortest float matches are the relevant ones"; and since so are all characters of an integer with a
+// letter, what goes on behind it goes on behind its 0.
+pub fn bad_number_after(text: &[u8], file: &[u8], digits: Match, float: Match) -> Match
+    requires { ⌜ class-check (now file) ≡ 0 ⌝ }
+    ensures { λ r. ⌜ r ≡ bad-number-behind (now (text .entry)) (now (file .entry)) digits float ⌝ }
+{
+    let mut end = ident_chars_after(text, file, short_float(text, digits, float));
+    end = later(
+        ident_chars_after(text, file, point_after(text, digits)),
+        end,
+    );
+    later(ident_chars_after(text, file, digits), end)
+}
+
 pub fn match_bad_number(text: &[u8], file: &[u8], i: usize) -> Match
     requires { ⌜ class-check (now file) ≡ 0 ⌝ }
     ensures { λ r. ⌜ r ≡ match-bad-number (now (text .entry)) (now (file .entry)) i ⌝ }
 {
-    let integer = match_integer(text, i);
-    let based = match_xinteger(text, i);
-    let mut end = ident_chars_after(text, file, short_float(text, integer));
-    end = later(
-        ident_chars_after(text, file, point_after(text, integer)),
-        end,
-    );
-    end = later(
-        ident_chars_after(text, file, lit_after(text, based, b"LF")),
-        end,
-    );
-    end = later(
-        ident_chars_after(text, file, floate_after(text, integer)),
-        end,
-    );
-    end = later(
-        ident_chars_after(text, file, floatp_after(text, integer)),
-        end,
-    );
-    end = later(ident_chars_after(text, file, based), end);
-    later(ident_chars_after(text, file, integer), end)
+    let digits = match_integer(text, i);
+    let float = floatp_after(text, digits);
+    bad_number_after(text, file, digits, float)
 }

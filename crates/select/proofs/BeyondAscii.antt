@@ -1,5 +1,5 @@
--- What `select` chooses at a character beyond ASCII: six places may begin with one, and each reads it once. Rests on the law of first
--- characters.
+-- What `select` chooses at a character beyond ASCII: six places may begin with one, one of them with ∀ and ∃ alone, and each reads it
+-- once. Rests on the law of first characters.
 use Prim.Native.Nat.{ℕ, _+_, _≤_}
 use mathlib.Core.Path.{_≡_, refl, sym, ap, _∙_}
 use mathlib.Core.Bool.{Bool, true, false, _&&_, false≢true}
@@ -13,16 +13,17 @@ use Rattle.definition.specs.Text.{char-has, byte-is, star}
 use Rattle.definition.specs.Chars.{ascii-limit, is-digit, is-ident-start, is-constructor-start, is-ident-char, is-anywhite, is-newline-char, is-uoperator}
 use Rattle.definition.specs.Tables.{early-literals, kw-op-rules, op-tokens, mixfix-rules}
 use Rattle.definition.specs.Matchers.{_then_, only, one, plus, match-newline, match-ident, match-constructor}
-use Rattle.definition.specs.Select.{places, try-all, select}
+use Rattle.definition.specs.Select.{none-at, keep, found, places, try-all, select}
 use Rattle.definition.specs.Patterns.{patterns}
+use Rattle.definition.specs.declared.Choice.{Choice}
 use Rattle.definition.specs.declared.Sequence.the-variants.{Char}
 use Rattle.definition.specs.declared.Match.{Match}
 use Rattle.definition.specs.declared.Match.the-variants.{To}
 use Rattle.lemmas.proofs.Cases.{by-test, both}
 use Rattle.longest.proofs.Starts.{all-pass}
 use Rattle.longest.proofs.Places.{has-read}
-use Rattle.groups.specs.Groups.{at-beyond-ascii}
-use Rattle.select.proofs.First.{begins, among, select-among}
+use Rattle.groups.specs.Groups.{keyword, alone, _or_, at-beyond-ascii}
+use Rattle.select.proofs.First.{keep-forward, keep-best, begins, among, select-among}
 use Rattle.select.proofs.Standing.{one-read}
 
 -- ---- which places may begin with it
@@ -50,6 +51,11 @@ module _ (c : ℕ) (h : 128 ≤ c) where
   unfolding begins patterns early-literals kw-op-rules op-tokens mixfix-rules mem-cp
   six-places f = simp (not-ascii, not-listed, not-digit)
 
+  -- Where it is neither ∀ nor ∃, no keyword operator does.
+  five-places : (f : Bytes) → eqb c 0x2200 ≡ false → eqb c 0x2203 ≡ false → begins f (7 ∷ 8 ∷ 14 ∷ 15 ∷ 49 ∷ []) c ≡ true
+  unfolding begins patterns early-literals kw-op-rules op-tokens mixfix-rules mem-cp
+  five-places f a b = simp (not-ascii, not-listed, not-digit, a, b)
+
 -- ---- what they find
 
 -- A run behind one character that passes its test.
@@ -72,10 +78,30 @@ module _ (s f : Bytes) (i c w : ℕ) (q : sequence-at s i ≡ Char c w) where
       (λ t. absurd (false≢true (sym e ∙ both _ _ t .0)))
       (λ _. one-read is-newline-char s i c w q)
 
-  -- What is chosen at a character beyond ASCII.
-  pub beyond-ascii : 128 ≤ c → select s f i ≡ at-beyond-ascii s f i c (i + w)
+  -- The best of places 7 and 8.
+  abbrev white-or-line : Choice
+  white-or-line = alone i 7 (only (is-anywhite f c) (To (star (is-anywhite f) s (i + w)))) or found i 8 0 (only (is-newline-char c) (To (i + w)))
+
+  -- The best of them, of a choice for place 12 and of the three that follow.
+  abbrev with-keyword : Choice → Choice
+  with-keyword k =
+      white-or-line or k
+      or found i 14 0 (only (is-ident-start c) (To (star (is-ident-char f) s (i + w))))
+      or found i 15 0 (only (is-constructor-start f c) (To (star (is-ident-char f) s (i + w))))
+      or found i 49 0 (only (is-uoperator f c) (To (i + w)))
+
+  -- Nothing at place 12 changes nothing.
+  no-keyword : keep white-or-line (none-at i) ≡ white-or-line
+  no-keyword =
+      let first = alone i 7 (only (is-anywhite f c) (To (star (is-anywhite f) s (i + w)))) in
+      let a = keep-forward (none-at i) (found i 7 0 (only (is-anywhite f c) (To (star (is-anywhite f) s (i + w))))) in
+      let b = keep-forward first (found i 8 0 (only (is-newline-char c) (To (i + w)))) in
+      keep-best white-or-line (none-at i) (omega (arith, a, b))
+
+  -- What is chosen where keyword operators are tried,
+  tried : 128 ≤ c → select s f i ≡ with-keyword (keyword s i)
   unfolding among places try-all mem-cp plus match-ident match-constructor
-  beyond-ascii h =
+  tried h =
       select-among s f i (7 ∷ 8 ∷ 12 ∷ 14 ∷ 15 ∷ 49 ∷ []) c w q (six-places c h f)
       ∙ rw (
         has-read (leb ascii-limit) s i c w q ∙ le-leb ascii-limit c h,
@@ -85,3 +111,24 @@ module _ (s f : Bytes) (i c w : ℕ) (q : sequence-at s i ≡ Char c w) where
         run (is-constructor-start f) (is-ident-char f),
         one-read (is-uoperator f) s i c w q,
       )
+
+  -- and where they aren't, at any character but ∀ and ∃.
+  untried : 128 ≤ c → eqb c 0x2200 ≡ false → eqb c 0x2203 ≡ false → select s f i ≡ with-keyword (none-at i)
+  unfolding among places try-all mem-cp plus match-ident match-constructor
+  untried h a b =
+      select-among s f i (7 ∷ 8 ∷ 14 ∷ 15 ∷ 49 ∷ []) c w q (five-places c h f a b)
+      ∙ rw (
+        no-keyword,
+        has-read (leb ascii-limit) s i c w q ∙ le-leb ascii-limit c h,
+        run (is-anywhite f) (is-anywhite f),
+        newline h,
+        run is-ident-start (is-ident-char f),
+        run (is-constructor-start f) (is-ident-char f),
+        one-read (is-uoperator f) s i c w q,
+      )
+
+  -- What is chosen at a character beyond ASCII.
+  pub beyond-ascii : 128 ≤ c → select s f i ≡ at-beyond-ascii s f i c (i + w)
+  beyond-ascii h =
+      by-test (λ (k : Choice). select s f i ≡ with-keyword k) (eqb c 0x2200) (λ _. tried h) λ a.
+      by-test (λ (k : Choice). select s f i ≡ with-keyword k) (eqb c 0x2203) (λ _. tried h) (untried h a)

@@ -33,12 +33,12 @@ those ks n [] = []
 those ks n (p ∷ ps) = elim (mem-cp n ks) [ true ↦ p ∷ those ks (suc n) ps | false ↦ those ks (suc n) ps ]
 
 -- What is kept is no shorter than the best before.
-keep-forward : (b p : Choice) → b .end ≤ keep b p .end
+pub keep-forward : (b p : Choice) → b .end ≤ keep b p .end
 unfolding keep
 keep-forward b p = by-if-lt (λ (x : Choice). b .end ≤ x .end) (b .end) (p .end) (λ l. omega arith) (λ l. omega arith)
 
 -- A choice that is no longer than the best leaves the best.
-keep-best : (b p : Choice) → p .end ≤ b .end → keep b p ≡ b
+pub keep-best : (b p : Choice) → p .end ≤ b .end → keep b p ≡ b
 unfolding keep
 keep-best b p h = rw (le-ltb (b .end) (p .end) h)
 

@@ -17,8 +17,8 @@ line-end-requires c κs = search needs
 try-place-requires : tie.Need-try-place-requires
 try-place-requires c κs = search needs
 
-kw-op-requires : tie.Need-kw-op-requires
-kw-op-requires c κs = search needs
+quantifier-requires : tie.Need-quantifier-requires
+quantifier-requires c κs = search needs
 
 keep-requires : tie.Need-keep-requires
 keep-requires c κs = search needs
@@ -55,7 +55,7 @@ returns c =
     (placed _ _ (g .try-place .ensures)
     (placed _ _ (h .alone .ensures) refl (h .before .white-behind .ensures))
     (g .before .line-end .ensures))
-    (f .before .kw-op .ensures))
+    (f .before .quantifier .ensures))
     (e .before .ident-behind .ensures))
     (d .before .constructor-behind .ensures))
     (c .before .uoperator .ensures)
@@ -68,7 +68,7 @@ at-beyond-ascii-spec =
     alone-requires
     line-end-requires
     try-place-requires
-    kw-op-requires
+    quantifier-requires
     keep-requires
     ident-behind-requires
     try-place-requires-2

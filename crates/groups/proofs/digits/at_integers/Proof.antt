@@ -1,4 +1,4 @@
--- `at_integers` is the best of places 16 to 25: the digits are read once, and what `any_integer_ends` found is handed to each.
+-- `at_integers` is the best of places 16 to 25: the ends of the digits are handed to each.
 use mathlib.Core.Path.{refl}
 use Rattle.definition.specs.Tables.{cps}
 use Rattle.definition.specs.Utf8.{encode, encode-all}
@@ -6,9 +6,6 @@ use Rattle.groups.proofs.Chains.{kept, placed, ends-latest}
 use borrow.Author.Needs.{needs}
 use Rattle.groups.proofs.digits.at_integers.Statement.{statement}
 use Rattle.groups.proofs.digits.at_integers.Tie as tie
-
-any-integer-ends-requires : tie.Need-any-integer-ends-requires
-any-integer-ends-requires c κs = search needs
 
 latest-requires : tie.Need-latest-requires
 latest-requires c κs = search needs
@@ -26,49 +23,49 @@ slice-aggregate-try-suffix : tie.Need-slice-aggregate-try-suffix
 slice-aggregate-try-suffix c = search needs
 
 try-suffix-requires : tie.Need-try-suffix-requires
-try-suffix-requires c κs = c .before .before .before .before .before .any-integer-ends .ensures
+try-suffix-requires c κs = c .before .before .before .before .before .before .pre
 
 slice-aggregate-try-usuffix : tie.Need-slice-aggregate-try-usuffix
 slice-aggregate-try-usuffix c = search needs
 
 try-usuffix-requires : tie.Need-try-usuffix-requires
-try-usuffix-requires c κs = c .before .before .before .before .before .before .before .any-integer-ends .ensures
+try-usuffix-requires c κs = c .before .before .before .before .before .before .before .before .pre
 
 slice-aggregate-try-suffix-2 : tie.Need-slice-aggregate-try-suffix-2
 slice-aggregate-try-suffix-2 c = search needs
 
 try-suffix-requires-2 : tie.Need-try-suffix-requires-2
-try-suffix-requires-2 c κs = c .before .before .before .before .before .before .before .before .before .any-integer-ends .ensures
+try-suffix-requires-2 c κs = c .before .before .before .before .before .before .before .before .before .before .pre
 
 slice-aggregate-try-usuffix-2 : tie.Need-slice-aggregate-try-usuffix-2
 slice-aggregate-try-usuffix-2 c = search needs
 
 try-usuffix-requires-2 : tie.Need-try-usuffix-requires-2
-try-usuffix-requires-2 c κs = c .before .before .before .before .before .before .before .before .before .before .before .any-integer-ends .ensures
+try-usuffix-requires-2 c κs = c .before .before .before .before .before .before .before .before .before .before .before .before .pre
 
 slice-aggregate-try-suffix-3 : tie.Need-slice-aggregate-try-suffix-3
 slice-aggregate-try-suffix-3 c = search needs
 
 try-suffix-requires-3 : tie.Need-try-suffix-requires-3
-try-suffix-requires-3 c κs = c .before .before .before .before .before .before .before .before .before .before .before .before .before .any-integer-ends .ensures
+try-suffix-requires-3 c κs = c .before .before .before .before .before .before .before .before .before .before .before .before .before .before .pre
 
 slice-aggregate-try-usuffix-3 : tie.Need-slice-aggregate-try-usuffix-3
 slice-aggregate-try-usuffix-3 c = search needs
 
 try-usuffix-requires-3 : tie.Need-try-usuffix-requires-3
-try-usuffix-requires-3 c κs = c .before .before .before .before .before .before .before .before .before .before .before .before .before .before .before .any-integer-ends .ensures
+try-usuffix-requires-3 c κs = c .before .before .before .before .before .before .before .before .before .before .before .before .before .before .before .before .pre
 
 slice-aggregate-try-suffix-4 : tie.Need-slice-aggregate-try-suffix-4
 slice-aggregate-try-suffix-4 c = search needs
 
 try-suffix-requires-4 : tie.Need-try-suffix-requires-4
-try-suffix-requires-4 c κs = c .before .before .before .before .before .before .before .before .before .before .before .before .before .before .before .before .before .any-integer-ends .ensures
+try-suffix-requires-4 c κs = c .before .before .before .before .before .before .before .before .before .before .before .before .before .before .before .before .before .before .pre
 
 slice-aggregate-try-suffix-5 : tie.Need-slice-aggregate-try-suffix-5
 slice-aggregate-try-suffix-5 c = search needs
 
 try-suffix-requires-5 : tie.Need-try-suffix-requires-5
-try-suffix-requires-5 c κs = c .before .before .before .before .before .before .before .before .before .before .before .before .before .before .before .before .before .before .before .any-integer-ends .ensures
+try-suffix-requires-5 c κs = c .before .before .before .before .before .before .before .before .before .before .before .before .before .before .before .before .before .before .before .before .pre
 
 returns : tie.Need-returns
 unfolding cps encode-all encode
@@ -91,7 +88,7 @@ returns c =
     (kept (k .try-usuffix .ensures)
     (kept (l .try-suffix .ensures)
     (placed _ _ (m .try-place .ensures)
-    (placed _ _ (n .alone .ensures) refl (ends-latest _ _ (n .before .latest .ensures) (n .before .before .any-integer-ends .ensures)))
+    (placed _ _ (n .alone .ensures) refl (ends-latest _ _ (n .before .latest .ensures) (n .before .before .before .pre)))
     (m .before .byte-after .ensures))
     refl)
     refl)
@@ -106,7 +103,6 @@ pub at-integers-spec : {M : Type 1} → statement M
 at-integers-spec =
     tie.close
     (tie.spec
-    any-integer-ends-requires
     latest-requires
     alone-requires
     byte-after-requires
