@@ -1,7 +1,8 @@
 // Blobs: the source's `blob`, which ends at three backticks, and `use_lang`, which ends with the text.
 //
-// Proved: what is read is what the definition's `blob` or `use-lang` gives: item, payload and state. Reading is one pass.
+// Proved: what is read is what the definition's `blob` or `use-lang` gives: item, payload and state.
 // Assumed: nothing but what each function's `requires` says: a reader stands in a sound state of a legal text.
+// Cost: a blob is read once.
 use definition::Extra;
 use definition::Item;
 use definition::Match;

@@ -80,7 +80,7 @@ Inside s (Literal from n) = Unit {0}
 Inside s (Piece from to width n) = to ≤ length s
 Inside s (Blob from to contents end) = (to ≤ length s) × (end ≤ length s)
 
--- a description whose length can be told: its text is one of the table, and its length is a number of the machine's
+-- a description whose length can be told: its text is one of the table, and its length is below 2^64
 pub record Measurable (name : Bytes) (p : Payload) : Type 0 where
   pub listed : Listed p
   pub small : length-of name p < 18446744073709551616

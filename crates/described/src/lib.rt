@@ -1,8 +1,8 @@
 // Payloads as descriptions. An item whose payload doesn't fit is left unwritten, so where a payload's bytes come from, and
 // how many they are, is known before the first is written.
 //
-// Proved: the length of a description is the definition's `length-of`; what bytes a description stands for is the
-// definition `bytes-of`, and those who answer a description prove that it describes the payload (`Describes`).
+// Proved: the length of a description is `length-of` (specs/Described.antt); what bytes a description stands for is
+// `bytes-of` there, and those who answer a description prove that it describes the payload (`Describes`).
 // Assumed: nothing but what each function's `requires` says.
 pub mod places; // places.rt: where a reader stands after it reads on
 pub mod tokens; // tokens.rt: tokens and errors as readers answer them

@@ -19,7 +19,7 @@ ghost use Rattle.described.specs.Standing.{Standing};
 
 const ERROR: u32 = 173;
 
-// The source's `tok`: a token or a comment with the state after it, and a column that is known there.
+// The source's `tok`: a token with the state after it, and a column that is known there.
 pub fn token(
     name: &[u8],
     kind: u32,

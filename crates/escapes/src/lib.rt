@@ -1,6 +1,6 @@
 // The characters that escapes denote, and the bytes of a character.
-// Proved: each public function is the definition's of the same name; `unescape` at any offset of any bytes. A writer
-// changes nothing behind the bytes that it writes.
+// Proved: each public function answers what the definition's `unescape`, `is-surrogate` or `encode` says; `unescape` at any
+// offset of any bytes. A writer changes nothing behind the bytes that it writes.
 // Assumed: of `encode_into` that the number is at most 10FFFF and that its bytes fit.
 use definition::Octet;
 use definition::Sequence;

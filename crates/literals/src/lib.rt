@@ -1,6 +1,6 @@
 // What string literals hold, written: the second pass over a literal whose length is known.
 //
-// Proved: what is written is the definition's literal, and nothing behind it is changed. The pass is linear.
+// Proved: what is written is the definition's literal, and nothing behind it is changed.
 // Assumed: nothing but what the `requires` says: the class file is accepted, the length is the literal's, and it fits.
 use described::span;
 use escapes::encode_into;

@@ -1,7 +1,7 @@
 // Numbers as texts: what is left of a number without its prefixes and suffixes, whether it is above 255, and the decimal
 // digits of a number.
-// Proved: each public function is the definition's of the same name, for numbers of any length; a writer changes nothing
-// behind the digits that it writes.
+// Proved: each public function answers what the definition's `clean-number`, `int-of-string`, `digit-value` or `show` says,
+// for numbers of any length; a writer changes nothing behind the digits that it writes.
 // Assumed: of `show_into` that the digits fit.
 ghost use mathlib.Core.Path.{_≡_};
 ghost use Prim.Native.Nat.{_≤_};

@@ -1,9 +1,10 @@
 // String literals: the source's `string_lit`, which reads one from behind its quote.
 //
-// Proved: what is read is what the definition's `string-lit` gives: item, payload and state. Reading is one pass; the
-// payload is a part of the text where the literal stands there as it is, and is told by where it begins otherwise.
+// Proved: what is read is what the definition's `string-lit` gives: item, payload and state. The payload is a part of the
+// text where the literal stands there as it is, and is told by where it begins otherwise.
 // Assumed: nothing but what each function's `requires` says: the class file is accepted, and a reader stands in a sound
 // state of a legal text.
+// Cost: a literal is read once.
 use definition::Extra;
 use definition::Match;
 use definition::Pos;
