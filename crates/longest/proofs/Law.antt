@@ -1,7 +1,7 @@
 -- The laws of the longest match, for every layer above to cite: demand 3 of document 01 at one position, and the longest end of each place.
 -- They hold for any class file: nothing is asked of it. Rests on the files beside this one, which prove them: a language over offsets
 -- (Language), right answers (Ends), first characters (Starts), the shapes of patterns (Shapes, Literals, Backticks, Families), numbers
--- (Continues, Integers, Floats, BadNumbers, ThreeEnds, Numbers), the choice among ends (Best), and the 50 places (Places, Choosing).
+-- (Continues, Integers, Floats, BadNumbers, Numbers), the choice among ends (Best), and the 50 places (Places, Choosing).
 use Prim.Native.Nat.{ℕ, _≤_, _<_}
 use mathlib.Core.Path.{_≡_, refl, sym, _∙_}
 use native.Mathlib.Omega.{arith}
