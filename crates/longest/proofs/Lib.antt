@@ -1,6 +1,7 @@
 -- `Law` is what a reader cites. It rests, from the ground up, on `Language`, what an expression permits by offsets; on `Ends`, right
 -- answers of matchers; on `Starts`, the first characters of an expression; on `Best`, the choice among places; on the shapes of patterns,
--- from `Shapes` to `Numbers`; and on `Places` and `Choosing`, the 50 places and the choice among them.
+-- from `Shapes` to `Numbers`; and on `Places` and `Choosing`, the 50 places and the choice among them. `ThreeEnds` stands beside it: a law of
+-- bad numbers that the code rests on.
 pub mod Language
 pub mod Ends
 pub mod Starts

@@ -7,7 +7,6 @@ use mathlib.Core.List.{[], _∷_}
 use Rattle.definition.specs.Basics.{Bytes, ch}
 use Rattle.definition.specs.Text.{byte-has, byte-is, star}
 use Rattle.definition.specs.Chars.{is-digit, is-ident-char}
-use Rattle.definition.specs.Tables.{cps}
 use Rattle.definition.specs.Matchers.{
   _then_,
   later,
