@@ -1,7 +1,7 @@
 // What is done with a choice that is read whole: tokens up to its end, and the errors that it can be.
 //
 // Proved: each function reads what the definition's rule gives (crates/definition/specs/Token.antt): item, payload and state.
-// No payload is copied: each is a part of the text or a text of the tables.
+// No payload is copied: each is a part of the text, a `>` and a part, or a text of the tables.
 // Assumed: nothing but what each function's `requires` says: a reader stands in a sound state of a legal text, and the
 // choice ends behind it (`Chose`).
 pub mod tokens; // tokens.rt: a token up to an end, and an error over what was chosen

@@ -94,7 +94,7 @@ inside-listed s (Blob from to contents end) h = tt
 
 module _ {s name f : Bytes} {at : Place} {count used : ℕ} {rs : List ℕ} {ps : Bytes} {r : Read} (b : Between s name f at count used rs ps)
     (awake : at .st .mode ≡ 2 → ⊥) (h : Reads s name f (step s name f (at .st)) r) where
-  -- a payload's length is a number of the machine's
+  -- a payload's length is far below 2^32
   pub size-small : length-of name (r .payload) ≤ 421527552
   size-small =
       omega (arith, h .payload .long, payload-bound s name f (b .named) (at .st) (b .kept .stands) awake, budget-small s (at .st) (b .kept .stands))

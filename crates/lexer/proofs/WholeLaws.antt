@@ -1,4 +1,4 @@
--- The whole run: refused, or its items. Rests on nothing but the definition, and on demand 3's law for a run that isn't refused.
+-- The whole run: refused, or its items. Rests on what a run that isn't refused was given, and on demand 3's law for it.
 use Prim.Native.Nat.{ℕ}
 use mathlib.Core.Path.{_≡_, refl, sym, ap, _∙_}
 use mathlib.Core.List.{List}

@@ -1,8 +1,8 @@
-// The lexer: document 01's three operations over a text, on numbers and lent buffers.
+// Document 01's run, over a text, on numbers and lent buffers. (Its `start` and class check are `state::start` and
+// `classes::check::class_check`.)
 //
-// Proved: `start` and `class_check` (crates state and classes, passed on here) and `run` are the definition's, for every
-// input: `run` answers, and leaves both buffers, as the definition's `run` says, refusals included; and for a run that
-// isn't refused, demand 3 holds at every reading position. Assumed: nothing.
+// Proved: for every input `run` answers, and leaves both buffers, as the definition's `run` says, refusals included; and
+// for a run that isn't refused, demand 3 holds at every reading position. Assumed: nothing.
 use ascii::op_char_table;
 use ascii::symbolchar_table;
 use definition::RunAnswer;
