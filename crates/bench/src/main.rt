@@ -1,0 +1,187 @@
+// Runs the lexer over standard input as many times as the first argument says, once where there is none, and writes how
+// many items one whole run gives, or REFUSED and the number. With a second argument, whatever it is, it only checks the
+// text's UTF-8 so many times, and writes how many of its first bytes are legal: bench/measure sets that time
+// beside the lexer's. The classes are those of the file classes.bin in the working directory; a missing one counts as empty.
+// Proved: it ends and breaks nothing, and what it runs is `lexer::run`.
+// Assumed: what `libc` and `os` declare of reading and writing.
+use definition::State;
+use libc::STDIN_FILENO;
+use libc::STDOUT_FILENO;
+ghost use mathlib.Core.Path.{_≡_};
+ghost use Prim.Native.Nat.{_≤_};
+ghost use lib.ListN.{length};
+ghost use Rattle.io.specs.Counts.{Counts};
+
+// What a whole run gave: the items, or the refusal's number.
+struct Whole {
+    refusal: u32,
+    items: u64,
+}
+
+// One byte more than a run takes, so that a longer text is refused and not cut.
+fn text_buffer() -> [u8; 1048577]
+    ensures { λ r. ⌜ 1048577 ≡ length r ⌝ }
+{
+    [0; 1048577]
+}
+
+// The records of 65,536 items.
+fn record_buffer() -> [u32; 1048576]
+    ensures { λ r. ⌜ 1048576 ≡ length r ⌝ }
+{
+    [0; 1048576]
+}
+
+// More than the longest payload, which a text has that is one comment that is never closed.
+fn payload_buffer() -> [u8; 1052672]
+    ensures { λ r. ⌜ 1052672 ≡ length r ⌝ }
+{
+    [0; 1052672]
+}
+
+// One byte more than a class file may have.
+fn class_buffer() -> [u8; 65537]
+    ensures { λ r. ⌜ 65537 ≡ length r ⌝ }
+{
+    [0; 65537]
+}
+
+// A run over the whole text. It runs on after a full buffer. Each run writes an item at least, since every payload fits
+// into an empty buffer, and there are no more items than bytes and the end.
+fn whole_run(
+    text: &[u8],
+    classes: &[u8],
+    start: State,
+    records: &mut [u32],
+    payload: &mut [u8],
+) -> Whole {
+    let mut state = start;
+    let mut items: u64 = 0;
+    for _ in 0..1048577usize {
+        let answer = lexer::run(text, b"stdin", classes, state, records, payload);
+        items = std::num::wrapping_add_u64(items, answer.count as u64);
+        if answer.stop == 0 {
+            return Whole {
+                refusal: answer.refusal,
+                items: items,
+            };
+        }
+        state = answer.state;
+    }
+    Whole {
+        refusal: 0,
+        items: items,
+    }
+}
+
+// As many whole runs as asked for; what the last one gave.
+fn runs(
+    rounds: usize,
+    text: &[u8],
+    classes: &[u8],
+    records: &mut [u32],
+    payload: &mut [u8],
+) -> Whole {
+    let started = state::start(1, 0);
+    let mut last = Whole {
+        refusal: 0,
+        items: 0,
+    };
+    for _ in 0..rounds {
+        last = whole_run(text, classes, started.state, records, payload);
+    }
+    last
+}
+
+// The lesser of two numbers.
+fn least(a: usize, b: usize) -> usize
+    ensures { λ r. ⌜ r ≤ a ⌝ }
+{
+    if b < a {
+        return b;
+    }
+    a
+}
+
+// The UTF-8 check as many times as asked for. Each takes as many bytes as the one before found legal (all of them, for a
+// legal text), so that none can be left out as the same as the one before.
+fn checks(rounds: usize, text: &[u8]) -> usize {
+    let mut legal = text.len();
+    for _ in 0..rounds {
+        legal = least(legal, text::first_bad(&text[..legal]));
+    }
+    legal
+}
+
+// The number that a word's first digits say, as far as it is no more than a million.
+fn number(word: &[u8]) -> usize {
+    let mut n: usize = 0;
+    for i in 0..word.len() {
+        if word[i] < b'0' {
+            return n;
+        }
+        if b'9' < word[i] {
+            return n;
+        }
+        if 100000 < n {
+            return 1000000;
+        }
+        n = n * 10 + (word[i] - b'0') as usize;
+    }
+    n
+}
+
+// How many rounds the first argument asks for.
+fn rounds() -> usize {
+    let mut word = [0u8; 20];
+    if os::arg_count() < 2 {
+        return 1;
+    }
+    let length = os::arg(1, &mut word);
+    number(&word[..length])
+}
+
+// Reads classes.bin, one byte more than a class file may have, and answers how many bytes came.
+fn read_classes(file: &mut [u8]) -> usize
+    ensures { λ r. ⌜ Counts r (now (file .exit)) ⌝ }
+{
+    let fd = os::open_read(b"classes.bin");
+    if fd < 0 {
+        return 0;
+    }
+    let n = io::read_full(fd, file);
+    libc::close(fd);
+    n
+}
+
+// Writes a number and a line end.
+fn say(n: u64) {
+    io::print_decimal(STDOUT_FILENO, n);
+    io::write_all(STDOUT_FILENO, b"\n");
+}
+
+fn main() {
+    let mut text = text_buffer();
+    let mut records = record_buffer();
+    let mut payload = payload_buffer();
+    let mut classes = class_buffer();
+    let length = io::read_full(STDIN_FILENO, &mut text);
+    let size = read_classes(&mut classes);
+    if 2 < os::arg_count() {
+        say(checks(rounds(), &text[..length]) as u64);
+        return;
+    }
+    let last = runs(
+        rounds(),
+        &text[..length],
+        &classes[..size],
+        &mut records,
+        &mut payload,
+    );
+    if last.refusal != 0 {
+        io::write_all(STDOUT_FILENO, b"REFUSED ");
+        say(last.refusal as u64);
+        return;
+    }
+    say(last.items);
+}
