@@ -14,7 +14,7 @@ use Rattle.definition.specs.Tables.{early-literals, kw-op-rules, op-tokens, mix
 use Rattle.definition.specs.Select.{none-at, places, try-all, select}
 use Rattle.definition.specs.Patterns.{patterns}
 use Rattle.lemmas.proofs.Cases.{by-test, by-order, both, both-true}
-use Rattle.lemmas.proofs.Members.{all-in, mem-no}
+use Rattle.lemmas.proofs.Members.{all-in, Rest, keys-of, all-own, no-key, some-keys}
 use Rattle.groups.specs.Groups.{at-letter, at-capital, at-digit}
 use Rattle.select.specs.Standing.{Ascii, Other, decided}
 use Rattle.select.proofs.First.{begins, among}
@@ -48,49 +48,6 @@ passing-listed p (d ∷ l) c m t =
     later n = by-test (λ (b : Bool). b ≡ true → mem-cp c l ≡ true) (eqb d c) (λ e _. absurd (false≢true (sym n ∙ e))) (λ _ r. r)
 
 -- ---- what no arm has
-
--- A number is none of the keys of some arms, as a `match` says it in its last arm; the keys are listed from the last arm to the first.
-abbrev pub Rest : List (List ℕ) → ℕ → Type 0
-Rest [] x = Unit {0}
-Rest (ks ∷ kss) x = Rest kss x × (OneOf ks x → ⊥)
-
--- All the keys.
-abbrev keys-of : List (List ℕ) → List ℕ
-keys-of [] = []
-keys-of (ks ∷ kss) = ks ++ keys-of kss
-
--- Each list holds its own elements: so that each number in it is one of its keys.
-abbrev all-own : List (List ℕ) → Bool
-all-own [] = true
-all-own (ks ∷ kss) = all-in ks ks && all-own kss
-
--- What is in neither of two lists is not in both together.
-neither-listed : (l m : List ℕ) (x : ℕ) → mem-cp x l ≡ false → mem-cp x m ≡ false → mem-cp x (l ++ m) ≡ false
-unfolding mem-cp
-neither-listed [] m x p q = q
-neither-listed (d ∷ l) m x p q =
-    by-test (λ (b : Bool). b ≡ false → mem-cp x ((d ∷ l) ++ m) ≡ false) (eqb d x)
-    (λ _ r. absurd (false≢true (sym r)))
-    (λ n r. by-test (λ (b : Bool). b ≡ false) (eqb d x) (λ e. absurd (false≢true (sym n ∙ e))) (λ _. neither-listed l m x r q))
-    p
-
--- A number that is no key of any arm is not among all the keys.
-no-key : (kss : List (List ℕ)) (x : ℕ) → all-own kss ≡ true → Rest kss x → mem-cp x (keys-of kss) ≡ false
-unfolding mem-cp
-no-key [] x t h = refl
-no-key (ks ∷ kss) x t (h, n) =
-    let b = both (all-in ks ks) (all-own kss) t in
-    neither-listed ks (keys-of kss) x (mem-no ks ks x (b .0) n) (no-key kss x (b .1) h)
-
--- Nor is it in a list of some of them.
-some-keys : (l m : List ℕ) (x : ℕ) → all-in l m ≡ true → mem-cp x m ≡ false → mem-cp x l ≡ false
-unfolding mem-cp
-some-keys [] m x t n = refl
-some-keys (d ∷ l) m x t n =
-    let b = both (mem-cp d m) (all-in l m) t in
-    by-test (λ (b : Bool). b ≡ false) (eqb d x)
-    (λ e. absurd (false≢true (sym n ∙ ap (λ (y : ℕ). mem-cp y m) (sym (eqb-true d x e)) ∙ b .0)))
-    (λ _. some-keys l m x (b .1) n)
 
 -- Where the arms have the characters that decide by themselves, the last arm has another.
 pub other : {s : Bytes} {i c : ℕ} (kss : List (List ℕ)) → all-own kss ≡ true → all-in decided (keys-of kss) ≡ true → Ascii s i c → Rest kss c → Other s i c

@@ -6,8 +6,7 @@ use mathlib.Core.Bool.{Bool, true, false}
 use mathlib.Core.List.{List, [], _∷_}
 use native.Mathlib.Omega.{arith}
 use lib.ListN.{length, getD}
-use lib.Seq.{slice}
-use Rattle.definition.specs.Basics.{Bytes, ch}
+use Rattle.definition.specs.Basics.{Bytes, ch, mem-cp}
 use Rattle.definition.specs.Text.{byte-is}
 use Rattle.definition.specs.Chars.{is-op-char}
 use Rattle.definition.specs.Tables.{kw-op-rules, op-tokens, mixfix-rules}
@@ -17,8 +16,9 @@ use Rattle.definition.specs.declared.Choice.{Choice}
 use Rattle.definition.specs.declared.Match.{Match}
 use Rattle.definition.specs.declared.Match.the-variants.{To, Nothing}
 use Rattle.lemmas.proofs.Cases.{by-order}
+use Rattle.lemmas.proofs.Members.{Rest, no-key}
 use Rattle.progress.proofs.Matches.{plus-ends}
-use Rattle.words.specs.Rows.{Row, numbered, try-rows, first-fit, only-rows, starts-with, tokens-at, rank, symbols}
+use Rattle.words.specs.Rows.{Row, numbered, try-rows, first-fit, only-rows, starts-with, tokens-at}
 use Rattle.words.proofs.RowLaws.{
   no-row,
   word-at,
@@ -37,7 +37,7 @@ use Rattle.words.proofs.RowLaws.{
   fit-none,
 }
 use Rattle.words.proofs.TableLaws.{own-number}
-use Rattle.words.proofs.Computed.{kw-ops, kw-count, kw-entries, kw-apart, kw-full, tokens-full, token-slice, mixfix-slice, mixfix-points}
+use Rattle.words.proofs.Computed.{kw-ops, kw-count, kw-entries, kw-apart, kw-full, tokens-full, first-bytes, tokens-none, mixfix-points}
 
 module _ (s : Bytes) (i : ℕ) where
   -- ---- keyword operators
@@ -105,19 +105,26 @@ module _ (s : Bytes) (i : ℕ) where
       ∙ rows-left i 36 lit (λ r. is-empty (r .1)) (λ r t. past-end s i h (r .1) t) (numbered 0 op-tokens) (none-at i) (omega arith)
       ∙ ap (λ (rs : List Row). try-rows i 36 lit rs (none-at i)) tokens-full
 
-  -- Elsewhere only those that may stand where the byte does are tried.
-  pub token-is : i < length s → getD s i 0 < 256 → {a b : ℕ} → a ≡ rank (getD s i 0) → b ≡ rank (getD s i 0 + 1)
-      → try-rows i 36 lit (slice a b symbols) (none-at i) ≡ try-words i 36 lit 0 op-tokens (none-at i)
-  token-is h small p q =
-      rw (p, q, token-slice (getD s i 0) small)
-      (sym (words-rows i 36 lit 0 op-tokens (none-at i)
-      ∙ rows-left i 36 lit (λ r. starts-with (getD s i 0) (r .1)) (λ r t. other-start s i h (r .1) t) (numbered 0 op-tokens) (none-at i) (omega arith)))
+  module _ (h : i < length s) where
+    -- Elsewhere only those that may stand where the byte does are tried,
+    pub token-is : {b : ℕ} → getD s i 0 ≡ b → try-rows i 36 lit (tokens-at b) (none-at i) ≡ try-words i 36 lit 0 op-tokens (none-at i)
+    token-is e =
+        rw (← e)
+        (sym (words-rows i 36 lit 0 op-tokens (none-at i)
+        ∙ rows-left i 36 lit (λ r. starts-with (getD s i 0) (r .1)) (λ r t. other-start s i h (r .1) t) (numbered 0 op-tokens) (none-at i) (omega arith)))
+
+    -- and none where no token begins with it.
+    pub token-none : getD s i 0 < 256 → Rest first-bytes (getD s i 0) → none-at i ≡ try-words i 36 lit 0 op-tokens (none-at i)
+    unfolding try-rows mem-cp
+    token-none small n =
+        sym (ap (λ (rs : List Row). try-rows i 36 lit rs (none-at i)) (tokens-none (getD s i 0) small (no-key first-bytes (getD s i 0) refl n)))
+        ∙ token-is refl
 
   -- ---- mixfix words
 
   -- At a point all are tried.
-  pub mixfix-is : try-rows i 50 lit (slice 53 61 symbols) (none-at i) ≡ try-words i 50 lit 0 mixfix-rules (none-at i)
-  mixfix-is = ap (λ (rs : List Row). try-rows i 50 lit rs (none-at i)) mixfix-slice ∙ sym (words-rows i 50 lit 0 mixfix-rules (none-at i))
+  pub mixfix-is : try-rows i 50 lit (numbered 0 mixfix-rules) (none-at i) ≡ try-words i 50 lit 0 mixfix-rules (none-at i)
+  mixfix-is = sym (words-rows i 50 lit 0 mixfix-rules (none-at i))
 
   -- Elsewhere there is none.
   pub mixfix-no : byte-is (ch ".") s i ≡ false → try-words i 50 lit 0 mixfix-rules (none-at i) ≡ none-at i

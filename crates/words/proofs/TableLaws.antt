@@ -17,7 +17,7 @@ use Rattle.definition.specs.Matchers.{match-lit}
 use Rattle.definition.specs.declared.Match.the-variants.{To, Nothing}
 use Rattle.lemmas.proofs.Cases.{both}
 use Rattle.scan.proofs.ByteLaws.{lit-on, lit-stop, lit-done}
-use Rattle.words.specs.Rows.{Row, numbered, pad, padded, marks}
+use Rattle.words.specs.Rows.{Row, numbered, pad, padded}
 use Rattle.words.proofs.RowLaws.{no-row, word-at}
 
 -- the lengths of the words
@@ -60,21 +60,6 @@ row-byte n rs t k j hk hj =
     ap (λ (l : Bytes). getD l j 0) (getD-any (padded n rs) k [] (pad n []) in-map ∙ List·getD-map (λ (r : Row). pad n (r .1)) rs k no-row)
     ∙ getD-take n (w ++ replicate n 0) j 0 (omega arith)
     ∙ List·getD-append w (replicate n 0) 0 j hj
-
-module _ (rs : List Row) (k : ℕ) (h : k < length rs) where
-  -- The marks at k are those of row k.
-  marks-at : getD (marks rs) k [] ≡ length (word-at rs k) ∷ getD rs k no-row .0 ∷ []
-  marks-at =
-      let f : Row → List ℕ = λ r. length (r .1) ∷ r .0 ∷ [] in
-      getD-any (marks rs) k [] (0 ∷ 0 ∷ []) (rw (length-mapped f rs) h) ∙ List·getD-map f rs k no-row
-
-  -- The first is its word's length,
-  pub mark-length : getD (getD (marks rs) k []) 0 0 ≡ length (word-at rs k)
-  mark-length = ap (λ (l : List ℕ). getD l 0 0) marks-at
-
-  -- the second its number.
-  pub mark-number : getD (getD (marks rs) k []) 1 0 ≡ getD rs k no-row .0
-  mark-number = ap (λ (l : List ℕ). getD l 1 0) marks-at
 
 -- The rows of a definition's table are numbered from its first on.
 number-at : (es : List Entry) (w k : ℕ) → k < length es → getD (numbered w es) k no-row .0 ≡ w + k
@@ -150,13 +135,3 @@ each-at f n k d h =
 -- What two functions give of all numbers below a bound, if it is the same, they give of each.
 pub same-each : {B : Type 0} (f g : ℕ → B) (n : ℕ) (d : B) → map f (count-up 0 n) ≡ map g (count-up 0 n) → (k : ℕ) → k < n → f k ≡ g k
 same-each {B} f g n d e k h = sym (each-at f n k d h) ∙ ap (λ (l : List B). getD l k d) e ∙ each-at g n k d h
-
--- what a function gives of the numbers below 8 n, in rows of 8
-abbrev pub chart : (ℕ → ℕ) → ℕ → List (List ℕ)
-chart f n = map (λ q. map (λ r. f (q * 8 + r)) (count-up 0 8)) (count-up 0 n)
-
--- At b / 8 and b % 8 it has what the function gives of b.
-pub chart-at : (f : ℕ → ℕ) (n b : ℕ) → b / 8 < n → getD (getD (chart f n) (b / 8) []) (b % 8) 0 ≡ f b
-chart-at f n b h =
-    let row : getD (chart f n) (b / 8) [] ≡ map (λ r. f (b / 8 * 8 + r)) (count-up 0 8) = each-at (λ q. map (λ r. f (q * 8 + r)) (count-up 0 8)) n (b / 8) [] h in
-    ap (λ (l : List ℕ). getD l (b % 8) 0) row ∙ each-at (λ r. f (b / 8 * 8 + r)) 8 (b % 8) 0 (omega arith) ∙ ap f (div-add-mod' b 8)

@@ -1,12 +1,12 @@
--- The definition's tables as rows of a number and a word: trying some of them in turn, the first that fits, and the order of the code's
--- table of symbols, by first byte.
+-- The definition's tables as rows of a number and a word: trying some of them in turn, the first that fits, and those that may stand
+-- where a byte does.
 use Prim.Native.Nat.{ℕ, zero, suc}
 use mathlib.Core.Bool.{Bool, true, false}
 use mathlib.Core.List.{List, [], _∷_, _++_, map}
-use lib.Dec.{ltb, eqb}
-use lib.ListN.{length, take, replicate}
+use lib.Dec.{eqb}
+use lib.ListN.{take, replicate}
 use Rattle.definition.specs.Basics.{Bytes}
-use Rattle.definition.specs.Tables.{Entry, cps, op-tokens, mixfix-rules}
+use Rattle.definition.specs.Tables.{Entry, cps, op-tokens}
 use Rattle.definition.specs.Matchers.{match-lit}
 use Rattle.definition.specs.Select.{keep, found}
 use Rattle.definition.specs.declared.Choice.{Choice}
@@ -30,10 +30,6 @@ pad n w = take n (w ++ replicate n 0)
 abbrev pub padded : ℕ → List Row → List Bytes
 padded n rs = map (λ (r : Row). pad n (r .1)) rs
 
--- the length of each word, and its number
-abbrev pub marks : List Row → List (List ℕ)
-marks rs = map (λ (r : Row). length (r .1) ∷ r .0 ∷ []) rs
-
 -- each row is tried in turn, as the definition's `try-words` tries the words of a table
 unfoldable pub try-rows : ℕ → ℕ → (Bytes → Match) → List Row → Choice → Choice
 try-rows i place m [] best = best
@@ -54,24 +50,6 @@ abbrev pub starts-with : ℕ → Bytes → Bool
 starts-with b [] = true
 starts-with b (c ∷ l) = eqb c b
 
--- a word begins with a byte below b
-abbrev pub starts-below : ℕ → Bytes → Bool
-starts-below b [] = false
-starts-below b (c ∷ l) = ltb c b
-
 -- the operator tokens that may stand where the byte b does
 abbrev pub tokens-at : ℕ → List Row
 tokens-at b = only-rows (λ r. starts-with b (r .1)) (numbered 0 op-tokens)
-
--- how many operator tokens begin with a byte below b
-unfoldable pub rank : ℕ → ℕ
-rank b = length (only-rows (λ r. starts-below b (r .1)) (numbered 0 op-tokens))
-
--- the operator tokens by first byte, n bytes from b on
-abbrev pub by-byte : ℕ → ℕ → List Row
-by-byte b zero = []
-by-byte b (suc n) = tokens-at b ++ by-byte (suc b) n
-
--- the rows of the code's table of symbols
-unfoldable pub symbols : List Row
-symbols = by-byte 0 256 ++ numbered 0 mixfix-rules

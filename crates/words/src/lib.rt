@@ -3,22 +3,37 @@
 // Proved: each search answers what trying every word of the definition's table in turn gives, and each kind is the
 // definition's. That the constants below are the definition's words is computed from its tables.
 // Assumed: the table of operator characters where it is lent.
+pub mod tokens; // tokens.rt: the operator tokens by their first bytes, and the mixfix words
+
+use crate::tokens::at_bar;
+use crate::tokens::at_brace;
+use crate::tokens::at_bracket;
+use crate::tokens::at_colon;
+use crate::tokens::at_dollar;
+use crate::tokens::at_equals;
+use crate::tokens::at_less;
+use crate::tokens::at_minus;
+use crate::tokens::at_paren;
+use crate::tokens::at_point;
+use crate::tokens::at_question;
+use crate::tokens::at_tilde;
+use crate::tokens::mixfix;
+use crate::tokens::only_token;
 use definition::Choice;
 use definition::Match;
 use scan::bytes::byte_is;
 use scan::runs::plus_op_char;
 ghost use mathlib.Core.Path.{_≡_};
 ghost use mathlib.Core.List.{[]};
-ghost use Prim.Native.Nat.{_≤_, _<_};
+ghost use Prim.Native.Nat.{_<_};
 ghost use lib.ListN.{length, getD};
-ghost use lib.Seq.{slice};
 ghost use Rattle.definition.specs.Chars.{ascii-table, op-char-cps, is-op-char};
 ghost use Rattle.definition.specs.Kinds.{kind};
 ghost use Rattle.definition.specs.Tables.{cps, early-literals, kw-op-rules, op-tokens, mixfix-rules};
 ghost use Rattle.definition.specs.Matchers.{_then_, match-lit, plus};
 ghost use Rattle.definition.specs.Select.{none-at, keep, try-words};
 ghost use Rattle.definition.specs.Token.{entry};
-ghost use Rattle.words.specs.Rows.{numbered, padded, marks, try-rows, first-fit, rank, symbols};
+ghost use Rattle.words.specs.Rows.{numbered, padded, first-fit};
 
 // "Fixed literal tokens that come first": the words, padded to the longest, with their lengths and kinds.
 const EARLY: [[u8; 20]; 15] = [
@@ -77,173 +92,6 @@ const KW_OP_LENGTHS: [usize; 9] = [5, 2, 3, 6, 3, 6, 3, 3, 1];
 const KW_OP_PLAIN_KINDS: [u32; 9] = [33, 23, 31, 17, 17, 20, 20, 3, 101];
 
 const KW_OP_KINDS: [u32; 9] = [139, 140, 141, 142, 142, 143, 143, 144, 145];
-
-// The operator tokens, ordered by their first byte, and behind them the mixfix words.
-const SYMBOLS: [[u8; 14]; 61] = [
-    *b"!{\0\0\0\0\0\0\0\0\0\0\0\0",
-    *b"#\0\0\0\0\0\0\0\0\0\0\0\0\0",
-    *b"$:\0\0\0\0\0\0\0\0\0\0\0\0",
-    *b"$\0\0\0\0\0\0\0\0\0\0\0\0\0",
-    *b"%[\0\0\0\0\0\0\0\0\0\0\0\0",
-    *b"&\0\0\0\0\0\0\0\0\0\0\0\0\0",
-    *b"(|\0\0\0\0\0\0\0\0\0\0\0\0",
-    *b"()\0\0\0\0\0\0\0\0\0\0\0\0",
-    *b"(\0\0\0\0\0\0\0\0\0\0\0\0\0",
-    *b")\0\0\0\0\0\0\0\0\0\0\0\0\0",
-    *b",\0\0\0\0\0\0\0\0\0\0\0\0\0",
-    *b"-\0\0\0\0\0\0\0\0\0\0\0\0\0",
-    *b"->\0\0\0\0\0\0\0\0\0\0\0\0",
-    *b".\0\0\0\0\0\0\0\0\0\0\0\0\0",
-    *b".[|\0\0\0\0\0\0\0\0\0\0\0",
-    *b".[\0\0\0\0\0\0\0\0\0\0\0\0",
-    *b".(|\0\0\0\0\0\0\0\0\0\0\0",
-    *b".(\0\0\0\0\0\0\0\0\0\0\0\0",
-    *b"/\\\0\0\0\0\0\0\0\0\0\0\0\0",
-    *b":\0\0\0\0\0\0\0\0\0\0\0\0\0",
-    *b"::\0\0\0\0\0\0\0\0\0\0\0\0",
-    *b":=\0\0\0\0\0\0\0\0\0\0\0\0",
-    *b";\0\0\0\0\0\0\0\0\0\0\0\0\0",
-    *b"<:\0\0\0\0\0\0\0\0\0\0\0\0",
-    *b"<@\0\0\0\0\0\0\0\0\0\0\0\0",
-    *b"<--\0\0\0\0\0\0\0\0\0\0\0",
-    *b"<-\0\0\0\0\0\0\0\0\0\0\0\0",
-    *b"<==>\0\0\0\0\0\0\0\0\0\0",
-    *b"==>\0\0\0\0\0\0\0\0\0\0\0",
-    *b"=\0\0\0\0\0\0\0\0\0\0\0\0\0",
-    *b"?.\0\0\0\0\0\0\0\0\0\0\0\0",
-    *b"?\0\0\0\0\0\0\0\0\0\0\0\0\0",
-    *b"[@@@\0\0\0\0\0\0\0\0\0\0",
-    *b"[@@\0\0\0\0\0\0\0\0\0\0\0",
-    *b"[@\0\0\0\0\0\0\0\0\0\0\0\0",
-    *b"[|\0\0\0\0\0\0\0\0\0\0\0\0",
-    *b"[\0\0\0\0\0\0\0\0\0\0\0\0\0",
-    *b"\\/\0\0\0\0\0\0\0\0\0\0\0\0",
-    *b"]\0\0\0\0\0\0\0\0\0\0\0\0\0",
-    *b"returns$\0\0\0\0\0\0",
-    *b"u#\0\0\0\0\0\0\0\0\0\0\0\0",
-    *b"{:pattern\0\0\0\0\0",
-    *b"{:well-founded",
-    *b"{|\0\0\0\0\0\0\0\0\0\0\0\0",
-    *b"{\0\0\0\0\0\0\0\0\0\0\0\0\0",
-    *b"|)\0\0\0\0\0\0\0\0\0\0\0\0",
-    *b"|>\0\0\0\0\0\0\0\0\0\0\0\0",
-    *b"|]\0\0\0\0\0\0\0\0\0\0\0\0",
-    *b"|}\0\0\0\0\0\0\0\0\0\0\0\0",
-    *b"|\0\0\0\0\0\0\0\0\0\0\0\0\0",
-    *b"}\0\0\0\0\0\0\0\0\0\0\0\0\0",
-    *b"~\0\0\0\0\0\0\0\0\0\0\0\0\0",
-    *b"~>\0\0\0\0\0\0\0\0\0\0\0\0",
-    *b".[]<-\0\0\0\0\0\0\0\0\0",
-    *b".()<-\0\0\0\0\0\0\0\0\0",
-    *b".(||)<-\0\0\0\0\0\0\0",
-    *b".[||]<-\0\0\0\0\0\0\0",
-    *b".[]\0\0\0\0\0\0\0\0\0\0\0",
-    *b".()\0\0\0\0\0\0\0\0\0\0\0",
-    *b".(||)\0\0\0\0\0\0\0\0\0",
-    *b".[||]\0\0\0\0\0\0\0\0\0",
-];
-
-// The length of each, and its number in its own table.
-const SYMBOL_MARKS: [[usize; 2]; 61] = [
-    [2, 39],
-    [1, 9],
-    [2, 5],
-    [1, 29],
-    [2, 37],
-    [1, 11],
-    [2, 7],
-    [2, 12],
-    [1, 13],
-    [1, 14],
-    [1, 15],
-    [1, 1],
-    [2, 17],
-    [1, 22],
-    [3, 25],
-    [2, 26],
-    [3, 27],
-    [2, 28],
-    [2, 2],
-    [1, 32],
-    [2, 33],
-    [2, 34],
-    [1, 35],
-    [2, 4],
-    [2, 6],
-    [3, 18],
-    [2, 19],
-    [4, 20],
-    [3, 21],
-    [1, 36],
-    [2, 23],
-    [1, 24],
-    [4, 40],
-    [3, 41],
-    [2, 42],
-    [2, 43],
-    [1, 45],
-    [2, 3],
-    [1, 47],
-    [8, 38],
-    [2, 10],
-    [9, 30],
-    [14, 31],
-    [2, 44],
-    [1, 50],
-    [2, 8],
-    [2, 46],
-    [2, 48],
-    [2, 49],
-    [1, 51],
-    [1, 52],
-    [1, 0],
-    [2, 16],
-    [5, 0],
-    [5, 1],
-    [7, 2],
-    [7, 3],
-    [3, 4],
-    [3, 5],
-    [5, 6],
-    [5, 7],
-];
-
-// How many operator tokens begin with a byte below b, at b / 8 and b % 8: those that begin with b stand from there on.
-const TOKENS_FROM: [[usize; 8]; 33] = [
-    [0, 0, 0, 0, 0, 0, 0, 0],
-    [0, 0, 0, 0, 0, 0, 0, 0],
-    [0, 0, 0, 0, 0, 0, 0, 0],
-    [0, 0, 0, 0, 0, 0, 0, 0],
-    [0, 0, 1, 1, 2, 4, 5, 6],
-    [6, 9, 10, 10, 10, 11, 13, 18],
-    [19, 19, 19, 19, 19, 19, 19, 19],
-    [19, 19, 19, 22, 23, 28, 30, 30],
-    [32, 32, 32, 32, 32, 32, 32, 32],
-    [32, 32, 32, 32, 32, 32, 32, 32],
-    [32, 32, 32, 32, 32, 32, 32, 32],
-    [32, 32, 32, 32, 37, 38, 39, 39],
-    [39, 39, 39, 39, 39, 39, 39, 39],
-    [39, 39, 39, 39, 39, 39, 39, 39],
-    [39, 39, 39, 40, 40, 40, 41, 41],
-    [41, 41, 41, 41, 45, 50, 51, 53],
-    [53, 53, 53, 53, 53, 53, 53, 53],
-    [53, 53, 53, 53, 53, 53, 53, 53],
-    [53, 53, 53, 53, 53, 53, 53, 53],
-    [53, 53, 53, 53, 53, 53, 53, 53],
-    [53, 53, 53, 53, 53, 53, 53, 53],
-    [53, 53, 53, 53, 53, 53, 53, 53],
-    [53, 53, 53, 53, 53, 53, 53, 53],
-    [53, 53, 53, 53, 53, 53, 53, 53],
-    [53, 53, 53, 53, 53, 53, 53, 53],
-    [53, 53, 53, 53, 53, 53, 53, 53],
-    [53, 53, 53, 53, 53, 53, 53, 53],
-    [53, 53, 53, 53, 53, 53, 53, 53],
-    [53, 53, 53, 53, 53, 53, 53, 53],
-    [53, 53, 53, 53, 53, 53, 53, 53],
-    [53, 53, 53, 53, 53, 53, 53, 53],
-    [53, 53, 53, 53, 53, 53, 53, 53],
-    [53, 53, 53, 53, 53, 53, 53, 53],
-];
 
 // Nothing is chosen yet.
 pub fn nothing(i: usize) -> Choice
@@ -385,62 +233,6 @@ pub fn kw_op_kind(word: usize) -> u32
     KW_OP_KINDS[word]
 }
 
-// Byte j of row k of the symbols.
-fn symbol_byte(k: usize, j: usize) -> u8
-    requires { ⌜ (k < 61) × (j < 14) ⌝ }
-    ensures { λ r. ⌜ r ≡ getD (getD (padded 14 symbols) k []) j 0 ⌝ }
-{
-    SYMBOLS[k][j]
-}
-
-// The length of the symbol in row k, for 0, or its number, for 1.
-fn symbol_mark(k: usize, which: usize) -> usize
-    requires { ⌜ (k < 61) × (which < 2) ⌝ }
-    ensures { λ r. ⌜ r ≡ getD (getD (marks symbols) k []) which 0 ⌝ }
-{
-    SYMBOL_MARKS[k][which]
-}
-
-// The longest at i of the symbols from one row up to another.
-fn longest_symbol(text: &[u8], i: usize, from: usize, to: usize, place: u32) -> Choice
-    requires { ⌜ to ≤ 61 ⌝ }
-    ensures { λ r. ⌜ r ≡ try-rows i place (λ w. match-lit (now (text .entry)) w i) (slice from to symbols) (none-at i) ⌝ }
-{
-    let mut best = nothing(i);
-    let mut next = from;
-    'words: while next < to {
-        let k = next;
-        next += 1;
-        let n = symbol_mark(k, 0);
-        let mut end = i;
-        let mut j = 0;
-        'bytes: while j < n {
-            if !byte_is(text, end, symbol_byte(k, j)) {
-                continue 'words;
-            }
-            end += 1;
-            j += 1;
-        }
-        best = keep(
-            best,
-            Choice {
-                place: place,
-                end: end,
-                word: symbol_mark(k, 1),
-            },
-        );
-    }
-    best
-}
-
-// How many operator tokens begin with a byte below b.
-fn tokens_from(b: usize) -> usize
-    requires { ⌜ b ≤ 256 ⌝ }
-    ensures { λ r. ⌜ r ≡ rank b ⌝ }
-{
-    TOKENS_FROM[b / 8][b % 8]
-}
-
 // The longest of the operator tokens at i: only those that begin with the byte there are tried.
 pub fn op_token(text: &[u8], i: usize) -> Choice
     ensures { λ r. ⌜ r ≡ try-words i 36 (λ w. match-lit (now (text .entry)) w i) 0 op-tokens (none-at i) ⌝ }
@@ -448,16 +240,43 @@ pub fn op_token(text: &[u8], i: usize) -> Choice
     if text.len() <= i {
         return nothing(i);
     }
-    let first = text[i] as usize;
-    longest_symbol(text, i, tokens_from(first), tokens_from(first + 1), 36)
+    let first = text[i];
+    match first {
+        b'!' => only_token(text, i, b"!{", 39),
+        b'#' => only_token(text, i, b"#", 9),
+        b'$' => at_dollar(text, i),
+        b'%' => only_token(text, i, b"%[", 37),
+        b'&' => only_token(text, i, b"&", 11),
+        b'(' => at_paren(text, i),
+        b')' => only_token(text, i, b")", 14),
+        b',' => only_token(text, i, b",", 15),
+        b'-' => at_minus(text, i),
+        b'.' => at_point(text, i),
+        b'/' => only_token(text, i, b"/\\", 2),
+        b':' => at_colon(text, i),
+        b';' => only_token(text, i, b";", 35),
+        b'<' => at_less(text, i),
+        b'=' => at_equals(text, i),
+        b'?' => at_question(text, i),
+        b'[' => at_bracket(text, i),
+        b'\\' => only_token(text, i, b"\\/", 3),
+        b']' => only_token(text, i, b"]", 47),
+        b'r' => only_token(text, i, b"returns$", 38),
+        b'u' => only_token(text, i, b"u#", 10),
+        b'{' => at_brace(text, i),
+        b'|' => at_bar(text, i),
+        b'}' => only_token(text, i, b"}", 52),
+        b'~' => at_tilde(text, i),
+        _ => nothing(i),
+    }
 }
 
-// The longest of the mixfix words at i: they all begin with a point.
+// The longest of the mixfix words at i.
 pub fn mixfix_word(text: &[u8], i: usize) -> Choice
     ensures { λ r. ⌜ r ≡ try-words i 50 (λ w. match-lit (now (text .entry)) w i) 0 mixfix-rules (none-at i) ⌝ }
 {
     if byte_is(text, i, b'.') {
-        return longest_symbol(text, i, 53, 61, 50);
+        return mixfix(text, i);
     }
     nothing(i)
 }
