@@ -6,12 +6,14 @@ use mathlib.Core.Bool.{true}
 use mathlib.Core.List.{List, _∷_, _++_, map, append-assoc, append-nil}
 use native.Mathlib.Omega.{arith}
 use lib.Dec.{eqb}
-use lib.ListN.{length, take, drop}
+use lib.ListN.{length, take, drop, replicate}
 use borrow.Author.Tests.{eq-eqb, eqb-true, eqb-false}
 use Rattle.definition.specs.Basics.{Bytes, done}
-use Rattle.definition.specs.State.{sound}
+use Rattle.definition.specs.Tables.{cps}
+use Rattle.definition.specs.State.{started, sound}
 use Rattle.definition.specs.Item.{Step, record-size, words}
 use Rattle.definition.specs.Run.{Outcome, Writing, stopped, run-turn, most-items, refusal, refused, run}
+use Rattle.definition.specs.Listed.{said, listed}
 use Rattle.definition.specs.declared.State.{State}
 use Rattle.lemmas.specs.Over.{over}
 use Rattle.lemmas.proofs.Cases.{by-test}
@@ -128,3 +130,10 @@ module _ (s name f : Bytes) where
   pub splits-agree : {st b b′ : State} {l l′ : List Told} → refusal s name f st .0 ≡ 0 → Split s name f st l b → b .mode ≡ 2
       → Split s name f st l′ b′ → b′ .mode ≡ 2 → l ≡ l′
   splits-agree taken w m w′ m′ = split-whole taken w m ∙ sym (split-whole taken w′ m′)
+
+-- ---- the table of cases
+
+-- Document 01's marked lines are computed of `listed` (crates/definition/proofs/Cases.antt), and that is what the run of the contract says.
+pub listed-run : (s f : Bytes) → listed s f ≡ said (run s (cps "stdin") f (started 1 0) (replicate (record-size * (length s + 1)) 0) (replicate (4 * length s) 0))
+unfolding listed
+listed-run s f = refl

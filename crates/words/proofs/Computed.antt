@@ -11,8 +11,8 @@ use Rattle.definition.specs.Utf8.{encode, encode-all}
 use Rattle.definition.specs.Chars.{count-up}
 use Rattle.definition.specs.Tables.{cps, early-literals, kw-op-rules, op-tokens, mixfix-rules}
 use Rattle.lemmas.proofs.Members.{keys-of}
-use Rattle.words.specs.Rows.{Row, numbered, only-rows, tokens-at}
-use Rattle.words.proofs.RowLaws.{no-row, word-at, is-empty, starts-other, touches}
+use Rattle.words.specs.Rows.{Row, numbered, only-rows, early-pair, tokens-at}
+use Rattle.words.proofs.RowLaws.{no-row, word-at, is-empty, is-short, all-begin, starts-other, touches}
 use Rattle.words.proofs.TableLaws.{all-short, same-each}
 
 -- the rows of the early literals, and of the keyword operators
@@ -31,6 +31,16 @@ early-short = refl
 pub kw-short : all-short 6 kw-ops ≡ true
 unfolding kw-op-rules cps encode-all encode
 kw-short = refl
+
+-- Each early literal has two bytes or more,
+pub early-long : only-rows (λ (r : Row). is-short (r .1)) early ≡ []
+unfolding early-literals cps encode-all encode
+early-long = refl
+
+-- and begins with two bytes that one may begin with.
+pub early-pairs : all-begin early-pair early ≡ true
+unfolding early-literals cps encode-all encode
+early-pairs = refl
 
 -- ---- how many rows there are
 

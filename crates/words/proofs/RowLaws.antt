@@ -2,7 +2,7 @@
 -- Rests on the definition of `try-words` and of `match-lit`.
 use Prim.Native.Nat.{ℕ, zero, suc, _+_, _≤_, _<_}
 use mathlib.Core.Path.{_≡_, refl, sym, ap, subst, _∙_}
-use mathlib.Core.Bool.{Bool, true, false, not, _||_, false≢true}
+use mathlib.Core.Bool.{Bool, true, false, not, _&&_, _||_, false≢true}
 use mathlib.Core.List.{List, [], _∷_}
 use native.Mathlib.Nat.{add-zero}
 use native.Mathlib.Numerals.{add-one}
@@ -19,10 +19,10 @@ use Rattle.definition.specs.Select.{none-at, keep, found, try-words}
 use Rattle.definition.specs.declared.Choice.{Choice}
 use Rattle.definition.specs.declared.Match.{Match}
 use Rattle.definition.specs.declared.Match.the-variants.{To, Nothing}
-use Rattle.lemmas.proofs.Cases.{by-outcome, by-test, by-if-lt}
+use Rattle.lemmas.proofs.Cases.{by-outcome, by-test, by-order, by-if-lt, both}
 use Rattle.progress.proofs.Walks.{byte-passes}
 use Rattle.scan.proofs.ByteLaws.{has-within, has-past}
-use Rattle.words.specs.Rows.{Row, numbered, try-rows, first-fit, only-rows, starts-with}
+use Rattle.words.specs.Rows.{Row, numbered, try-rows, first-fit, only-rows, starts-with, starts-two}
 
 -- no row
 abbrev pub no-row : Row
@@ -106,6 +106,35 @@ abbrev pub is-empty : Bytes → Bool
 is-empty [] = true
 is-empty (c ∷ l) = false
 
+-- a word of a byte at most
+abbrev pub is-short : Bytes → Bool
+is-short [] = true
+is-short (c ∷ []) = true
+is-short (c ∷ d ∷ l) = false
+
+-- a word of two bytes or more, which pass a test
+abbrev begins-two : (ℕ → ℕ → Bool) → Bytes → Bool
+begins-two t [] = false
+begins-two t (c ∷ []) = false
+begins-two t (c ∷ d ∷ l) = t c d
+
+-- the words of all rows are such
+abbrev pub all-begin : (ℕ → ℕ → Bool) → List Row → Bool
+all-begin t [] = true
+all-begin t (r ∷ rs) = begins-two t (r .1) && all-begin t rs
+
+-- Then no word may stand where two bytes do that don't pass it.
+pub none-begins : (t : ℕ → ℕ → Bool) (rs : List Row) → all-begin t rs ≡ true → (a b : ℕ) → t a b ≡ false → only-rows (λ r. starts-two a b (r .1)) rs ≡ []
+none-begins t [] e a b n = refl
+none-begins t ((k, []) ∷ rs) e a b n = absurd (false≢true e)
+none-begins t ((k, c ∷ []) ∷ rs) e a b n = absurd (false≢true e)
+none-begins t ((k, c ∷ d ∷ l) ∷ rs) e a b n =
+    let g = both (t c d) (all-begin t rs) e in
+    by-outcome (eqb c a && eqb d b)
+    (λ q. let h = both (eqb c a) (eqb d b) q in
+    absurd (false≢true (sym n ∙ sym (ap (λ (x : ℕ). t x b) (eqb-true c a (h .0))) ∙ sym (ap (t c) (eqb-true d b (h .1))) ∙ g .0)))
+    (λ q. rw (q, only-rows) (none-begins t rs (g .1) a b n))
+
 -- a word may stand where the byte b doesn't
 abbrev pub starts-other : ℕ → Bytes → Bool
 starts-other b [] = true
@@ -122,6 +151,12 @@ abbrev pub touches : Bytes → Bytes → Bool
 touches w v = begins w v || begins v w
 
 module _ (s : Bytes) where
+  -- Past the end no word is.
+  pub past-end : (i : ℕ) → length s ≤ i → (w : Bytes) → is-empty w ≡ false → match-lit s w i ≡ Nothing
+  unfolding match-lit
+  past-end i h [] e = absurd (false≢true (sym e))
+  past-end i h (c ∷ l) e = rw (has-past (λ x. eqb x c) s i h, match-lit)
+
   -- A word with a first byte that isn't the text's isn't there.
   pub other-start : (i : ℕ) → i < length s → (w : Bytes) → starts-with (getD s i 0) w ≡ false → match-lit s w i ≡ Nothing
   unfolding match-lit
@@ -129,6 +164,29 @@ module _ (s : Bytes) where
   other-start i h (c ∷ l) e =
       let n : byte-is c s i ≡ false = has-within (λ x. eqb x c) s i h ∙ ne-eqb (getD s i 0) c (λ q. eqb-false c (getD s i 0) e (sym q)) in
       rw (n, match-lit)
+
+  -- Nor is one whose first two aren't.
+  pub other-two : (i : ℕ) → i < length s → (w : Bytes) → starts-two (getD s i 0) (getD s (i + 1) 0) w ≡ false → match-lit s w i ≡ Nothing
+  unfolding match-lit
+  other-two i h [] e = absurd (false≢true (sym e))
+  other-two i h (c ∷ []) e = absurd (false≢true (sym e))
+  other-two i h (c ∷ d ∷ l) e =
+      by-outcome (eqb c (getD s i 0))
+      (λ q. by-test (λ n. n ≡ Nothing) (byte-is c s i) (λ _. second (sym (ap (λ (t : Bool). t && eqb d (getD s (i + 1) 0)) q) ∙ e)) (λ _. refl))
+      (λ q. other-start i h (c ∷ d ∷ l) q)
+    where
+      second : eqb d (getD s (i + 1) 0) ≡ false → match-lit s (d ∷ l) (i + 1) ≡ Nothing
+      second r =
+          by-order (i + 1) (length s)
+          (λ k. other-start (i + 1) k (d ∷ l) r)
+          (λ k. past-end (i + 1) k (d ∷ l) refl)
+
+  -- At the last byte no word of two bytes or more is.
+  pub past-two : (i : ℕ) → length s ≤ i + 1 → (w : Bytes) → is-short w ≡ false → match-lit s w i ≡ Nothing
+  unfolding match-lit
+  past-two i h [] e = absurd (false≢true (sym e))
+  past-two i h (c ∷ []) e = absurd (false≢true (sym e))
+  past-two i h (c ∷ d ∷ l) e = by-test (λ n. n ≡ Nothing) (byte-is c s i) (λ _. past-end (i + 1) h (d ∷ l) refl) (λ _. refl)
 
   -- Where a byte isn't there no word is that begins with it.
   pub missing-start : (i b : ℕ) → byte-is b s i ≡ false → (w : Bytes) → starts-other b w ≡ false → match-lit s w i ≡ Nothing
@@ -138,12 +196,6 @@ module _ (s : Bytes) where
       let same : c ≡ b = eqb-true c b (not-false (eqb c b) e) in
       let no : byte-is c s i ≡ false = rw same n in
       rw (no, match-lit)
-
-  -- Past the end no word is.
-  pub past-end : (i : ℕ) → length s ≤ i → (w : Bytes) → is-empty w ≡ false → match-lit s w i ≡ Nothing
-  unfolding match-lit
-  past-end i h [] e = absurd (false≢true (sym e))
-  past-end i h (c ∷ l) e = rw (has-past (λ x. eqb x c) s i h, match-lit)
 
   -- A word ends as far behind its start as it is long.
   pub lit-end : (w : Bytes) (i : ℕ) {e : ℕ} → match-lit s w i ≡ To e → e ≡ i + length w

@@ -1,5 +1,5 @@
--- What the code's searches find is what trying every word of the definition's table gives: the first keyword operator that fits, the operator
--- tokens that begin with the text's byte, the mixfix words where a point stands. Rests on the laws of rows and on what is computed.
+-- What the code's searches find is what trying every word of the definition's table gives: early literals where one may begin, the first
+-- keyword operator that fits, the operator tokens that begin with the text's byte, the mixfix words where a point stands. Rests on the laws of rows and on what is computed.
 use Prim.Native.Nat.{ℕ, _+_, _≤_, _<_}
 use mathlib.Core.Path.{_≡_, refl, sym, ap, subst, _∙_}
 use mathlib.Core.Bool.{Bool, true, false}
@@ -9,7 +9,7 @@ use lib.ListN.{length, getD}
 use Rattle.definition.specs.Basics.{Bytes, ch, mem-cp}
 use Rattle.definition.specs.Text.{byte-is}
 use Rattle.definition.specs.Chars.{is-op-char}
-use Rattle.definition.specs.Tables.{kw-op-rules, op-tokens, mixfix-rules}
+use Rattle.definition.specs.Tables.{early-literals, kw-op-rules, op-tokens, mixfix-rules}
 use Rattle.definition.specs.Matchers.{_then_, match-lit, plus}
 use Rattle.definition.specs.Select.{none-at, try-words}
 use Rattle.definition.specs.declared.Choice.{Choice}
@@ -18,7 +18,7 @@ use Rattle.definition.specs.declared.Match.the-variants.{To, Nothing}
 use Rattle.lemmas.proofs.Cases.{by-order}
 use Rattle.lemmas.proofs.Members.{Rest, no-key}
 use Rattle.progress.proofs.Matches.{plus-ends}
-use Rattle.words.specs.Rows.{Row, numbered, try-rows, first-fit, only-rows, starts-with, tokens-at}
+use Rattle.words.specs.Rows.{Row, numbered, try-rows, first-fit, only-rows, starts-with, starts-two, early-pair, tokens-at}
 use Rattle.words.proofs.RowLaws.{
   no-row,
   word-at,
@@ -27,6 +27,10 @@ use Rattle.words.proofs.RowLaws.{
   row-missing,
   row-alone,
   is-empty,
+  is-short,
+  other-two,
+  none-begins,
+  past-two,
   starts-other,
   touches,
   other-start,
@@ -37,7 +41,7 @@ use Rattle.words.proofs.RowLaws.{
   fit-none,
 }
 use Rattle.words.proofs.TableLaws.{own-number}
-use Rattle.words.proofs.Computed.{kw-ops, kw-count, kw-entries, kw-apart, kw-full, tokens-full, first-bytes, tokens-none, mixfix-points}
+use Rattle.words.proofs.Computed.{early-long, early-pairs, kw-ops, kw-count, kw-entries, kw-apart, kw-full, tokens-full, first-bytes, tokens-none, mixfix-points}
 
 module _ (s : Bytes) (i : ℕ) where
   -- ---- keyword operators
@@ -90,6 +94,25 @@ module _ (s : Bytes) (i : ℕ) where
       where
         chosen : {x y : ℕ} → x ≡ y → _≡_ {A = Choice} (record { place = 12; end = e; word = y }) (record { place = 12; end = e; word = x })
         chosen z = rw z
+
+  -- ---- early literals
+
+  -- Where none begins with the text's bytes none is there.
+  pub early-none : i < length s → early-pair (getD s i 0) (getD s (i + 1) 0) ≡ false
+      → try-words i 1 (λ w. match-lit s w i) 0 early-literals (none-at i) ≡ none-at i
+  unfolding try-rows
+  early-none h e =
+      words-rows i 1 (λ w. match-lit s w i) 0 early-literals (none-at i)
+      ∙ rows-left i 1 (λ w. match-lit s w i) (λ r. starts-two (getD s i 0) (getD s (i + 1) 0) (r .1)) (λ r t. other-two s i h (r .1) t) (numbered 0 early-literals) (none-at i) (omega arith)
+      ∙ ap (λ (rs : List Row). try-rows i 1 (λ w. match-lit s w i) rs (none-at i)) (none-begins early-pair (numbered 0 early-literals) early-pairs (getD s i 0) (getD s (i + 1) 0) e)
+
+  -- Nor at the text's last byte, nor past it: each has two bytes or more.
+  pub early-past : length s ≤ i + 1 → try-words i 1 (λ w. match-lit s w i) 0 early-literals (none-at i) ≡ none-at i
+  unfolding try-rows
+  early-past h =
+      words-rows i 1 (λ w. match-lit s w i) 0 early-literals (none-at i)
+      ∙ rows-left i 1 (λ w. match-lit s w i) (λ r. is-short (r .1)) (λ r t. past-two s i h (r .1) t) (numbered 0 early-literals) (none-at i) (omega arith)
+      ∙ ap (λ (rs : List Row). try-rows i 1 (λ w. match-lit s w i) rs (none-at i)) early-long
 
   -- ---- operator tokens
 

@@ -1,11 +1,11 @@
 -- The definition's tables as rows of a number and a word: trying some of them in turn, the first that fits, and those that may stand
 -- where a byte does.
 use Prim.Native.Nat.{ℕ, zero, suc}
-use mathlib.Core.Bool.{Bool, true, false}
+use mathlib.Core.Bool.{Bool, true, false, _&&_}
 use mathlib.Core.List.{List, [], _∷_, _++_, map}
 use lib.Dec.{eqb}
 use lib.ListN.{take, replicate}
-use Rattle.definition.specs.Basics.{Bytes}
+use Rattle.definition.specs.Basics.{Bytes, ch, between, if_then_else_}
 use Rattle.definition.specs.Tables.{Entry, cps, op-tokens}
 use Rattle.definition.specs.Matchers.{match-lit}
 use Rattle.definition.specs.Select.{keep, found}
@@ -49,6 +49,17 @@ only-rows q (r ∷ rs) = elim (q r) [ true ↦ r ∷ only-rows q rs | false ↦ 
 abbrev pub starts-with : ℕ → Bytes → Bool
 starts-with b [] = true
 starts-with b (c ∷ l) = eqb c b
+
+-- a word of two bytes or more may stand where the bytes a and b do
+abbrev pub starts-two : ℕ → ℕ → Bytes → Bool
+starts-two a b [] = true
+starts-two a b (c ∷ []) = true
+starts-two a b (c ∷ d ∷ l) = eqb c a && eqb d b
+
+-- the two bytes that an early literal may begin with
+abbrev pub early-pair : ℕ → ℕ → Bool
+early-pair a b =
+    if eqb a (ch "s") then eqb b (ch "e") else (if eqb a (ch "#") then between (ch "a") (ch "z") b else (if eqb a (ch "%") then eqb b (ch "s") else eqb a (ch "`")))
 
 -- the operator tokens that may stand where the byte b does
 abbrev pub tokens-at : ℕ → List Row

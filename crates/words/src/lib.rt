@@ -27,13 +27,14 @@ ghost use mathlib.Core.Path.{_≡_};
 ghost use mathlib.Core.List.{[]};
 ghost use Prim.Native.Nat.{_<_};
 ghost use lib.ListN.{length, getD};
+ghost use Rattle.definition.specs.Basics.{between, ch};
 ghost use Rattle.definition.specs.Chars.{ascii-table, op-char-cps, is-op-char};
 ghost use Rattle.definition.specs.Kinds.{kind};
 ghost use Rattle.definition.specs.Tables.{cps, early-literals, kw-op-rules, op-tokens, mixfix-rules};
 ghost use Rattle.definition.specs.Matchers.{_then_, match-lit, plus};
 ghost use Rattle.definition.specs.Select.{none-at, keep, try-words};
 ghost use Rattle.definition.specs.Token.{entry};
-ghost use Rattle.words.specs.Rows.{numbered, padded, first-fit};
+ghost use Rattle.words.specs.Rows.{numbered, padded, first-fit, early-pair};
 
 // "Fixed literal tokens that come first": the words, padded to the longest, with their lengths and kinds.
 const EARLY: [[u8; 20]; 15] = [
@@ -122,8 +123,34 @@ fn early_byte(k: usize, j: usize) -> u8
     EARLY[k][j]
 }
 
-// The longest of the early literals at i.
-pub fn early_literal(text: &[u8], i: usize) -> Choice
+// A small letter of ASCII.
+fn is_ascii_small(b: u8) -> bool
+    ensures { λ r. ⌜ r ≡ between (ch "a") (ch "z") b ⌝ }
+{
+    if b < b'a' {
+        return false;
+    }
+    b <= b'z'
+}
+
+// Whether an early literal may begin with two bytes.
+fn early_begins(a: u8, b: u8) -> bool
+    ensures { λ r. ⌜ r ≡ early-pair a b ⌝ }
+{
+    if a == b's' {
+        return b == b'e';
+    }
+    if a == b'#' {
+        return is_ascii_small(b);
+    }
+    if a == b'%' {
+        return b == b's';
+    }
+    a == b'`'
+}
+
+// The longest of the early literals at i, each tried in turn.
+fn longest_early(text: &[u8], i: usize) -> Choice
     ensures { λ r. ⌜ r ≡ try-words i 1 (λ w. match-lit (now (text .entry)) w i) 0 early-literals (none-at i) ⌝ }
 {
     let mut best = nothing(i);
@@ -151,6 +178,22 @@ pub fn early_literal(text: &[u8], i: usize) -> Choice
         );
     }
     best
+}
+
+// The longest of the early literals at i. Few bytes begin one, so the table is built only where two bytes do.
+pub fn early_literal(text: &[u8], i: usize) -> Choice
+    ensures { λ r. ⌜ r ≡ try-words i 1 (λ w. match-lit (now (text .entry)) w i) 0 early-literals (none-at i) ⌝ }
+{
+    if text.len() <= i {
+        return nothing(i);
+    }
+    if text.len() <= i + 1 {
+        return nothing(i);
+    }
+    if early_begins(text[i], text[i + 1]) {
+        return longest_early(text, i);
+    }
+    nothing(i)
 }
 
 pub fn early_kind(word: usize) -> u32
