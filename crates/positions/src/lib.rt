@@ -50,9 +50,9 @@ pub fn count_chars(text: &[u8], i: usize, j: usize) -> usize
     n
 }
 
-// The source's `col_of`, by value: the offset asked for, with its column. It counts on from the known offset, or from
-// the line start where the known offset is past the one asked for.
-pub fn col_of(text: &[u8], st: State, known: Cache, i: u32) -> Cache
+// The cache after the column of offset i was asked for, by value. It counts on from the known offset, or from the line
+// start where the known offset is past the one asked for.
+fn column_from(text: &[u8], st: State, known: Cache, i: u32) -> Cache
     requires { ⌜ Asked one-each (now text) st known i ⌝ }
     ensures { λ r. ⌜ r ≡ column-at one-each (now (text .entry)) st i ⌝ }
 {
@@ -73,12 +73,38 @@ pub fn col_of(text: &[u8], st: State, known: Cache, i: u32) -> Cache
     }
 }
 
+// The source's `col_of`: it answers the column of offset i, and changes the cache in place. It is thin, as the borrow
+// checker covers no function over a struct that is lent: the counting is in `column_from`, and its own proof is a walk.
+fn col_of(text: &[u8], st: State, cache: &mut Cache, i: u32) -> u32
+    requires { ⌜ Asked one-each (now text) st (now cache) i ⌝ }
+    ensures { λ r. ⌜ (r ≡ column-at one-each (now (text .entry)) st i .col) × (now (cache .exit) ≡ column-at one-each (now (text .entry)) st i) ⌝ }
+{
+    let next = column_from(text, st, *cache, i);
+    cache.off = next.off;
+    cache.col = next.col;
+    next.col
+}
+
+// The one function that lends a cache: from what is known to what is known after the column of offset i was asked for.
+// Its parameters are plain, so that its callers need no walk.
+pub fn known_after(text: &[u8], st: State, known: Cache, i: u32) -> Cache
+    requires { ⌜ Asked one-each (now text) st known i ⌝ }
+    ensures { λ r. ⌜ r ≡ column-at one-each (now (text .entry)) st i ⌝ }
+{
+    let mut cache = known;
+    let col = col_of(text, st, &mut cache, i);
+    Cache {
+        off: cache.off,
+        col: col,
+    }
+}
+
 // The source's `pos_of`.
 pub fn pos_of(text: &[u8], st: State, known: Cache, i: u32) -> Located
     requires { ⌜ Asked one-each (now text) st known i ⌝ }
     ensures { λ r. ⌜ r ≡ located (now (text .entry)) st i ⌝ }
 {
-    let here = col_of(text, st, known, i);
+    let here = known_after(text, st, known, i);
     let pos = Pos {
         line: st.line,
         col: here.col,

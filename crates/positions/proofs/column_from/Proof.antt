@@ -3,8 +3,8 @@
 use borrow.Author.Needs.{needs}
 use native.Mathlib.Omega.{arith}
 use Rattle.positions.proofs.Counting.{from-known, from-start, count-fits, column-fits}
-use Rattle.positions.proofs.col_of.Statement.{statement}
-use Rattle.positions.proofs.col_of.Tie as tie
+use Rattle.positions.proofs.column_from.Statement.{statement}
+use Rattle.positions.proofs.column_from.Tie as tie
 
 cast-from : tie.Need-cast-from
 cast-from c = search needs
@@ -38,8 +38,8 @@ returns-2 c = from-start _ _ _ _ _ (c .before .count-chars2 .ensures)
 add-t14 : tie.Need-add-t14
 add-t14 c = omega (arith, column-fits _ (c .before .before .before .before .before .before .pre) (returns-2 c))
 
-pub col-of-spec : {M : Type 1} → statement M
-col-of-spec =
+pub column-from-spec : {M : Type 1} → statement M
+column-from-spec =
     tie.close
     (tie.spec
     cast-from
