@@ -145,9 +145,9 @@ module _ {M : Type 1} (𝓤 : URA M) (H : Heap 𝓤) (A : Atoms 𝓤) (W : Given
           move ! (2 ∷ 3 ∷ 0 ∷ []) $ use3 W (raw (ColOf 𝓤 H A at-mem run .pre (to-col-of l₅ ν δ))) (asks asked l₅ ν δ) $
           calls-at ! fm (ColOf 𝓤 H A at-mem run) proved (to-col-of l₅ ν δ) (and-then ! (load ! (from ! (stop !)) (look ! 16 refl)) (and-then ! (load ! (from ! (stop !)) (look ! 14 refl)) (and-then ! (load ! (from ! (stop !)) (look ! 5 refl)) (and-then ! (load ! (from ! (stop !)) (look ! 10 refl)) (no-more !))))) (λ w.
           use1 W (later (some (λ (n : ℕ). ((‵ (flft κ q) ⊛ ‵ (flft (ν ∷ []) fullShare) ⊛ ‵ ftrue) ⊛ ‵ (u32 .own n (w ∷ []))) ⊛ raw (ensured 𝓤 H A col-of.ended (col-of.clauses 𝓤 H A at-mem run) (κ, (ν ∷ [], tt)) (text, (st, (ref l₅ δ, (i, tt)))) tt n)))) (id⊢ 𝓤 _) $ await ! tt $ pick ! (λ n.
-          -- what `col_of` ensures, at some last cache
-          split ! $ move ! (1 ∷ []) $ use1 W (some (λ (ws : Unit {0} × (Unit {0} × (Cache × (Unit {0} × Unit {0})))). ‵ (lasts col-of.ended (κ, (ν ∷ [], tt)) (text, (st, (ref l₅ δ, (i, tt)))) ws) ⊛ raw (fact 𝓤 ((n ≡ found .col) × (ws .1 .1 .0 ≡ found))))) (id⊢ 𝓤 _) $ pick ! (λ ws.
-          split ! $ move ! (1 ∷ []) $ heard ! ((n ≡ found .col) × (ws .1 .1 .0 ≡ found)) (λ e.
+          -- what `col_of` ensures, as its contract has it, at some last cache
+          split ! $ move ! (1 ∷ []) $ use1 W (some (λ (ws : Unit {0} × (Unit {0} × (Cache × (Unit {0} × Unit {0})))). ‵ (lasts col-of.ended (κ, (ν ∷ [], tt)) (text, (st, (ref l₅ δ, (i, tt)))) ws) ⊛ raw (fact 𝓤 _))) (id⊢ 𝓤 _) $ pick ! (λ ws.
+          split ! $ move ! (1 ∷ []) $ heard ! _ (λ e.
           fsplit ! $ drop ! $ fsplit ! $ drop ! $ fsplit ! $ move ! (1 ∷ []) $ drop ! $ rewrite ! 0 (λ (c : Cache). ‵ (fres δ (T.the-row .coded .code c))) (e .1) refl $
           move ! (1 ∷ []) $ split ! $ move ! (1 ∷ []) $ peeks ! u32 (Is u32) (shows 𝓤 H A u32) n (w ∷ []) (λ is. drop ! $
           land ! (from ! (stop !)) (init ! 8 refl (uint-lawful 𝓤 H A W w32 .typed n _ is .0)) $ rewrite ! 8 (λ (u : Val). ‵ (fat fullShare (tyInt w32) l₆ 0 u)) (ap only (is .0)) refl $
