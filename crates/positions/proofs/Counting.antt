@@ -111,7 +111,7 @@ counted-small s i j n k h c =
 
 -- ---- the cache
 
--- what `col_of` hands back is known
+-- what `col_of` leaves in the cache is known
 pub known-again : (w : Weight) (s : Bytes) (st : State) (i : ℕ) → st .bol ≤ i → Known w s st (column-at w s st i)
 known-again w s st i h = record { after = h; column = refl }
 

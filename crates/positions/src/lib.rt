@@ -1,7 +1,7 @@
 // Columns and positions. A column goes on from the last one that is known, so that a line of n bytes costs n bytes of
 // counting over all of its items. Proved: the count is the definition's, and the column of an offset is the
-// definition's from any cache that is right, and the cache handed back is right again. The laws of the count and of
-// columns are stated for any weight per character; the functions count 1 for each.
+// definition's from any cache that is right, and the cache afterwards, lent or handed back, is right again. The laws of
+// the count and of columns are stated for any weight per character; the functions count 1 for each.
 // Assumed: nothing but what each function's `requires` says.
 ghost use mathlib.Core.Path.{_≡_};
 ghost use Prim.Native.Nat.{_-_, _≤_};
@@ -50,9 +50,9 @@ pub fn count_chars(text: &[u8], i: usize, j: usize) -> usize
     n
 }
 
-// The source's `col_of`, by value: the offset asked for, with its column. It counts on from the known offset, or from
-// the line start where the known offset is past the one asked for.
-pub fn col_of(text: &[u8], st: State, known: Cache, i: u32) -> Cache
+// The offset asked for, with its column, by value. It counts on from the known offset, or from the line start where the
+// known offset is past the one asked for.
+fn column_from(text: &[u8], st: State, known: Cache, i: u32) -> Cache
     requires { ⌜ Asked one-each (now text) st known i ⌝ }
     ensures { λ r. ⌜ r ≡ column-at one-each (now (text .entry)) st i ⌝ }
 {
@@ -73,12 +73,38 @@ pub fn col_of(text: &[u8], st: State, known: Cache, i: u32) -> Cache
     }
 }
 
+// The source's `col_of`: it answers the column, and changes the cache in place. The counting is in `column_from`, since a
+// function over a struct that is lent is proved by a walk of its code by hand.
+fn col_of(text: &[u8], st: State, cache: &mut Cache, i: u32) -> u32
+    requires { ⌜ Asked one-each (now text) st (now cache) i ⌝ }
+    ensures { λ r. ⌜ (r ≡ column-at one-each (now (text .entry)) st i .col) × (now (cache .exit) ≡ column-at one-each (now (text .entry)) st i) ⌝ }
+{
+    let next = column_from(text, st, *cache, i);
+    cache.off = next.off;
+    cache.col = next.col;
+    next.col
+}
+
+// What is known once the column of i was asked for, from what was known. The one function that lends a cache: its
+// parameters are plain, so that whoever calls it needs no walk.
+pub fn known_after(text: &[u8], st: State, known: Cache, i: u32) -> Cache
+    requires { ⌜ Asked one-each (now text) st known i ⌝ }
+    ensures { λ r. ⌜ r ≡ column-at one-each (now (text .entry)) st i ⌝ }
+{
+    let mut cache = known;
+    let col = col_of(text, st, &mut cache, i);
+    Cache {
+        off: cache.off,
+        col: col,
+    }
+}
+
 // The source's `pos_of`.
 pub fn pos_of(text: &[u8], st: State, known: Cache, i: u32) -> Located
     requires { ⌜ Asked one-each (now text) st known i ⌝ }
     ensures { λ r. ⌜ r ≡ located (now (text .entry)) st i ⌝ }
 {
-    let here = col_of(text, st, known, i);
+    let here = known_after(text, st, known, i);
     let pos = Pos {
         line: st.line,
         col: here.col,
