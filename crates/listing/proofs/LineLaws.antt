@@ -7,7 +7,7 @@ use mathlib.Core.List.{List, [], _∷_, _++_, map, append-assoc, append-nil}
 use native.Mathlib.Nat.{not-suc-le-zero, le-of-suc-le-suc}
 use native.Mathlib.Omega.{arith}
 use lib.Dec.{leb}
-use lib.ListN.{length, getD, take, drop, set, length-append}
+use lib.ListN.{length, getD, take, drop, set, length-append, length-take, length-drop}
 use lib.Seq.{take-all, drop-drop}
 use borrow.Author.Tests.{leb-true}
 use borrow.Rule.Slice.PartMut.{midOf, putMid}
@@ -23,7 +23,7 @@ use Rattle.lemmas.proofs.Over.{length-over, stored}
 use Rattle.lemmas.proofs.Copies.{write-on}
 use Rattle.lemmas.proofs.Tails.{behind}
 use Rattle.numerals.proofs.Digits.{show-last, show-more}
-use Rattle.listing.specs.Line.{letter, names, name-of, shown, numbers, line, lines}
+use Rattle.listing.specs.Line.{letter, names, name-of, shown, numbers, head, line, lines}
 use Rattle.listing.specs.Writing.{line-most}
 
 -- ---- lengths
@@ -94,6 +94,10 @@ wrote-more {a} {b} {l} {now} {tail} {at} u w = record {
 pub wrote-length : {a l now : List ℕ} {at : ℕ} → Wrote a l now at → at ≤ length l → length now ≡ length l
 wrote-length {a} {l} u h = ap length (u .bytes) ∙ length-over a l (omega (arith, u .all))
 
+-- what is lent of a buffer from `at` on
+pub tail-size : (l : List ℕ) (at : ℕ) → length (midOf at (length l - at) l) ≡ length l - at
+tail-size l at = simp (length-take, length-drop) (omega arith)
+
 pub wrote-none : (l : List ℕ) → Wrote [] l l 0
 unfolding over
 wrote-none l = record { all = refl; bytes = refl }
@@ -157,20 +161,22 @@ module _ {ws l now : List ℕ} {at k : ℕ} (g : Numbered ws l at k now) where
 
 -- ---- a line
 
--- its first two bytes
-pub wrote-two : (l : List ℕ) (x y : ℕ) → 2 ≤ length l → Wrote (x ∷ y ∷ []) l (set (set l 0 x) 1 y) 2
-wrote-two l x y h = stored (x ∷ y ∷ []) (x ∷ y ∷ []) l refl h
+-- its first two bytes, and the name behind them
+pub head-wrote : {l tail : List ℕ} {n : ℕ} (ws : List ℕ) (x : ℕ) → x ≡ letter (getD ws 0 0) → 2 ≤ length l
+    → Wrote (name-of (getD ws 1 0)) (midOf 2 (length (set (set l 0 x) 1 (ch " ")) - 2) (set (set l 0 x) 1 (ch " "))) tail n
+    → Wrote (head ws) l (putMid 2 (length (set (set l 0 x) 1 (ch " ")) - 2) (set (set l 0 x) 1 (ch " ")) tail) (2 + n) × (2 + n ≤ 28)
+head-wrote {l} ws x e h w =
+    let u : Wrote (x ∷ ch " " ∷ []) l (set (set l 0 x) 1 (ch " ")) 2 = stored (x ∷ ch " " ∷ []) (x ∷ ch " " ∷ []) l refl h in
+    (rw (← e) (wrote-more u w), omega (arith, w .all, name-size (getD ws 1 0)))
 
--- its last
-pub line-wrote : {l now : List ℕ} {at x : ℕ} (ws : List ℕ) → x ≡ letter (getD ws 0 0)
-    → Wrote (((x ∷ ch " " ∷ []) ++ name-of (getD ws 1 0)) ++ numbers (map (λ i. getD ws i 0) shown)) l now at → at < length l
+-- its last byte
+pub line-wrote : {l now : List ℕ} {at : ℕ} (ws : List ℕ) → Wrote (head ws ++ numbers (map (λ i. getD ws i 0) shown)) l now at → at < length l
     → Wrote (line ws) l (set now at (ch "\n")) (at + 1)
 unfolding line
-line-wrote {l} {now} {at} {x} ws e u h =
-    let a = ((x ∷ ch " " ∷ []) ++ name-of (getD ws 1 0)) ++ numbers (map (λ i. getD ws i 0) shown) in
-    let p : a ++ (ch "\n" ∷ []) ≡ line ws =
-    ap (λ (r : Bytes). x ∷ ch " " ∷ r) (append-assoc (name-of (getD ws 1 0)) (numbers (map (λ i. getD ws i 0) shown)) (ch "\n" ∷ []))
-    ∙ ap (λ (b : ℕ). b ∷ ch " " ∷ (name-of (getD ws 1 0) ++ (numbers (map (λ i. getD ws i 0) shown) ++ (ch "\n" ∷ [])))) e in
+line-wrote {l} {now} {at} ws u h =
+    let ns = numbers (map (λ i. getD ws i 0) shown) in
+    let a = head ws ++ ns in
+    let p : a ++ (ch "\n" ∷ []) ≡ line ws = append-assoc (head ws) ns (ch "\n" ∷ []) in
     record {
       all = omega (arith, u .all, length-append a (ch "\n" ∷ []), ap length p);
       bytes =
@@ -192,6 +198,10 @@ lines-on (suc k) rs =
     (ap (λ (d : List ℕ). lines k (drop record-size rs) ++ line (take record-size d))
     (ap (λ (i : ℕ). drop i rs) (sym q) ∙ sym (drop-drop (record-size * k) record-size rs))
     ∙ lines-on k (drop record-size rs))
+
+-- a record, from its first number up to the next record's
+pub record-at : (k : ℕ) (rs : List ℕ) → take ((16 * k + 16) - 16 * k) (drop (16 * k) rs) ≡ take record-size (drop (record-size * k) rs)
+record-at k rs = let e : (16 * k + 16) - 16 * k ≡ 16 = omega arith in rw e
 
 -- the lines of the first k records are written
 pub record Lined (rs before : List ℕ) (at k : ℕ) (after : List ℕ) : Type 0 where

@@ -31,12 +31,13 @@ unfoldable pub numbers : List ℕ → Bytes
 numbers [] = []
 numbers (n ∷ ns) = (ch " " ∷ show n) ++ numbers ns
 
+-- the letter and the name
+abbrev pub head : List ℕ → Bytes
+head ws = letter (getD ws 0 0) ∷ ch " " ∷ name-of (getD ws 1 0)
+
 -- the line of an item, by the sixteen numbers of its record
 unfoldable pub line : List ℕ → Bytes
-line ws =
-    letter (getD ws 0 0)
-    ∷ ch " "
-    ∷ (name-of (getD ws 1 0) ++ (numbers (map (λ i. getD ws i 0) shown) ++ (ch "\n" ∷ [])))
+line ws = head ws ++ (numbers (map (λ i. getD ws i 0) shown) ++ (ch "\n" ∷ []))
 
 -- the lines of the first n records, one behind the other
 unfoldable pub lines : ℕ → List ℕ → Bytes

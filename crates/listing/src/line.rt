@@ -12,7 +12,7 @@ ghost use Rattle.definition.specs.Basics.{ch};
 ghost use Rattle.definition.specs.Numbers.{show};
 ghost use Rattle.definition.specs.Item.{record-size};
 ghost use Rattle.lemmas.specs.Over.{Wrote};
-ghost use Rattle.listing.specs.Line.{letter, shown, numbers, line, lines};
+ghost use Rattle.listing.specs.Line.{letter, shown, head, numbers, line, lines};
 ghost use Rattle.listing.specs.Writing.{line-most, Room};
 
 // The words that a line shows as numbers, in its order.
@@ -52,14 +52,22 @@ fn numbers_into(words: &[u32], out: &mut [u8]) -> usize
     at
 }
 
+// Writes what a line begins with: the letter, a blank and the kind's name.
+fn head_into(words: &[u32], out: &mut [u8]) -> usize
+    requires { ⌜ (record-size ≤ length (now words)) × (28 ≤ length (now out)) ⌝ }
+    ensures { λ r. ⌜ Wrote (head (now (words .entry))) (now (out .entry)) (now (out .exit)) r × (r ≤ 28) ⌝ }
+{
+    out[0] = letter(words[0]);
+    out[1] = b' ';
+    2 + name_into(words[1], &mut out[2..])
+}
+
 // Writes the line of a record.
 fn line_into(words: &[u32], out: &mut [u8]) -> usize
     requires { ⌜ (record-size ≤ length (now words)) × (line-most ≤ length (now out)) ⌝ }
     ensures { λ r. ⌜ Wrote (line (now (words .entry))) (now (out .entry)) (now (out .exit)) r × (r ≤ line-most) ⌝ }
 {
-    out[0] = letter(words[0]);
-    out[1] = b' ';
-    let named = 2 + name_into(words[1], &mut out[2..]);
+    let named = head_into(words, out);
     let end = named + numbers_into(words, &mut out[named..]);
     out[end] = b'\n';
     end + 1

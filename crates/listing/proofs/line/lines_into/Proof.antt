@@ -1,84 +1,90 @@
+-- The invariant is `Lined`: the lines of the first k records are written. The measure is how many records are left.
+use Prim.Native.Nat.{_-_, _*_, _+_, _≤_}
+use mathlib.Core.Path.{_≡_, subst}
 use native.Mathlib.Omega.{arith}
+use lib.ListN.{length, length-take, length-drop}
+use Rattle.listing.specs.Line.{lines}
+use Rattle.lemmas.specs.Over.{Wrote}
+use Rattle.listing.proofs.LineLaws.{tail-size, Lined, lined-starts, lined-length, lined-on, record-at}
 use borrow.Author.Needs.{needs}
 use Rattle.listing.proofs.line.lines_into.Statement.{statement}
 use Rattle.listing.proofs.line.lines_into.Tie as tie
-use Rattle.listing.proofs.line.lines_into.Reads as reads
-use Rattle.listing.proofs.line.lines_into.Lts as lts
-use Rattle.listing.proofs.line.line_into.Reads as line-into-reads
 
 abbrev Inv-loop : tie.InvT-loop
-Inv-loop records count out₀ at₀ k₀ out at k = ?
+Inv-loop records count out₀ at₀ k₀ out at k = Lined records out₀ at k out × (k ≤ count)
 
 abbrev μ-loop : tie.MeasureT-loop
-μ-loop records count out₀ at₀ k₀ out at k = ?
+μ-loop records count out₀ at₀ k₀ out at k = count - k
 
--- src/line.rt:75:5
 loop-holds : tie.Need-loop-holds Inv-loop μ-loop
-loop-holds c = ?
+loop-holds c = (lined-starts _ _, omega arith)
 
--- src/line.rt:76:21
 mul-first : tie.Need-mul-first Inv-loop μ-loop
-mul-first c = ?
+mul-first c = record { fits = omega (arith, c .before .before .before .before .pre .records) }
 
--- src/line.rt:77:19
 add-end : tie.Need-add-end Inv-loop μ-loop
-add-end c = ?
+add-end c = record { fits = omega (arith, c .before .before .before .before .pre .records) }
 
--- src/line.rt:78:25
 mul-line-into : tie.Need-mul-line-into Inv-loop μ-loop
-mul-line-into c = ?
+mul-line-into c = search needs
 
--- src/line.rt:78:25
 sub-line-into : tie.Need-sub-line-into Inv-loop μ-loop
-sub-line-into c = ?
+sub-line-into c = omega arith
 
--- src/line.rt:78:25
 part-line-into-start : tie.Need-part-line-into-start Inv-loop μ-loop
-part-line-into-start c = ?
+part-line-into-start c = omega arith
 
--- src/line.rt:78:25
 part-line-into-end : tie.Need-part-line-into-end Inv-loop μ-loop
-part-line-into-end c = ?
+part-line-into-end c = omega (arith, c .before .before .before .before .pre .records)
 
--- src/line.rt:78:47
 sub-line-into-2 : tie.Need-sub-line-into-2 Inv-loop μ-loop
-sub-line-into-2 c = ?
+sub-line-into-2 c =
+    let i = c .before .before .loop .inv in
+    let p = c .before .before .before .before .before .pre in
+    omega (arith, lined-length (i .0) (omega (arith, i .1, p .lines)), i .0 .short, i .1, p .lines)
 
--- src/line.rt:78:47
 part-line-into-start-2 : tie.Need-part-line-into-start-2 Inv-loop μ-loop
-part-line-into-start-2 c = ?
+part-line-into-start-2 c =
+    let i = c .before .before .loop .inv in
+    let p = c .before .before .before .before .before .pre in
+    omega (arith, lined-length (i .0) (omega (arith, i .1, p .lines)), i .0 .short, i .1, p .lines)
 
--- src/line.rt:78:47
 part-line-into-end-2 : tie.Need-part-line-into-end-2 Inv-loop μ-loop
-part-line-into-end-2 c = ?
+part-line-into-end-2 c = search needs
 
--- src/line.rt:78:15
 line-into-requires : tie.Need-line-into-requires Inv-loop μ-loop
-line-into-requires c κs = ?
+line-into-requires c κs =
+    let l = c .before .before .before in
+    let i = l .loop .inv in
+    let g = l .before .before .before in
+    (simp (length-take, length-drop) (omega (arith, g .pre .records, c .before .before .loop-test .taken)),
+    omega (arith, tail-size (l .loop .out) (l .loop .at), lined-length (i .0) (omega (arith, i .1, g .pre .lines)), i .0 .short, g .pre .lines, c .before .before .loop-test .taken))
 
--- src/line.rt:78:9
 add-at : tie.Need-add-at Inv-loop μ-loop
-add-at c = ?
+add-at c =
+    let l = c .before .before .before .before .before .before in
+    omega (arith, c .before .before .line-into .ensures .1, l .loop .inv .0 .short, l .before .before .before .pre .lines, c .before .before .before .before .before .loop-test .taken)
 
--- src/line.rt:79:9
 add-k : tie.Need-add-k Inv-loop μ-loop
-add-k c = ?
+add-k c = omega arith
 
--- src/line.rt:75:5
 loop-less : tie.Need-loop-less Inv-loop μ-loop
-loop-less c = ?
+loop-less c = omega arith
 
--- src/line.rt:75:5
 loop-again : tie.Need-loop-again Inv-loop μ-loop
-loop-again c = ?
+loop-again c =
+    let l = c .before .before .before .before .before .before in
+    (lined-on (l .loop .inv .0) (record-at _ _) (c .before .before .line-into .ensures), omega arith)
 
--- src/line.rt:69:1
 same-length : tie.Need-same-length Inv-loop μ-loop
-same-length c = ?
+same-length c = lined-length (c .before .loop .inv .0) (omega (arith, c .before .loop .inv .1, c .before .before .before .before .pre .lines))
 
--- src/line.rt:69:1
 returns : tie.Need-returns Inv-loop μ-loop
-returns c = ?
+returns c =
+    let l = c .before in
+    let g = l .before .before .before in
+    let e : l .loop .k ≡ g .args .count = omega (arith, l .loop .inv .1, c .loop-test .left) in
+    rw (← e) (l .loop .inv .0 .wrote)
 
 pub lines-into-spec : {M : Type 1} → statement M
 lines-into-spec =

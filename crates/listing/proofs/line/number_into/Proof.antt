@@ -1,10 +1,7 @@
 -- The digits stand behind the blank, which is written last.
-use Prim.Native.Nat.{_-_}
-use mathlib.Core.Path.{_≡_}
 use native.Mathlib.Omega.{arith}
-use lib.ListN.{length, take, drop, length-take, length-drop}
 use Rattle.payloads.proofs.Parts.{in-front}
-use Rattle.listing.proofs.LineLaws.{word-size}
+use Rattle.listing.proofs.LineLaws.{word-size, tail-size}
 use borrow.Author.Needs.{needs}
 use Rattle.listing.proofs.line.number_into.Statement.{statement}
 use Rattle.listing.proofs.line.number_into.Tie as tie
@@ -21,9 +18,7 @@ part-show-into-end c = search needs
 show-into-requires : tie.Need-show-into-requires
 show-into-requires c κs =
     let g = c .before .before in
-    let l : length (take (length (g .args .out .now) - 1) (drop 1 (g .args .out .now))) ≡ length (g .args .out .now) - 1 =
-    simp (length-take, length-drop) (omega arith) in
-    omega (arith, l, g .pre, word-size (g .args .n) (omega arith))
+    omega (arith, tail-size (g .args .out .now) 1, g .pre, word-size (g .args .n) (omega arith))
 
 slice-write-out : tie.Need-slice-write-out
 slice-write-out c = search needs

@@ -1,7 +1,7 @@
 -- The invariant is `Numbered`: the first k numbers are written. The measure is how many are left.
 use Prim.Native.Nat.{_-_}
 use native.Mathlib.Omega.{arith}
-use Rattle.listing.proofs.LineLaws.{shown-below, Numbered, numbered-starts, numbered-length, numbered-on, numbered-ends}
+use Rattle.listing.proofs.LineLaws.{shown-below, tail-size, Numbered, numbered-starts, numbered-length, numbered-on, numbered-ends}
 use borrow.Author.Needs.{needs}
 use Rattle.listing.proofs.line.numbers_into.Statement.{statement}
 use Rattle.listing.proofs.line.numbers_into.Tie as tie
@@ -24,7 +24,7 @@ array-read-number-into : tie.Need-array-read-number-into Inv-loop μ-loop
 array-read-number-into c = search needs
 
 mul-number-into-2 : tie.Need-mul-number-into-2 Inv-loop μ-loop
-mul-number-into-2 c = record { fits = omega (arith, shown-below (c .before .before .loop .k)) }
+mul-number-into-2 c = record { fits = omega (arith, shown-below (c .before .loop .k)) }
 
 shared-slice-read-number-into : tie.Need-shared-slice-read-number-into Inv-loop μ-loop
 shared-slice-read-number-into c = omega (arith, shown-below (c .before .before .loop .k), c .before .before .before .before .before .pre .0)
@@ -35,16 +35,21 @@ sub-number-into c =
     omega (arith, numbered-length i, i .room, i .few, i .short)
 
 part-number-into-start : tie.Need-part-number-into-start Inv-loop μ-loop
-part-number-into-start c = search needs
+part-number-into-start c =
+    let i = c .before .before .loop .inv in
+    omega (arith, numbered-length i, i .room, i .few, i .short)
 
 part-number-into-end : tie.Need-part-number-into-end Inv-loop μ-loop
 part-number-into-end c = search needs
 
 number-into-requires : tie.Need-number-into-requires Inv-loop μ-loop
-number-into-requires c κs = ?
+number-into-requires c κs =
+    let l = c .before .before .before in
+    let i = l .loop .inv in
+    omega (arith, tail-size (l .loop .out) (l .loop .at), numbered-length i, i .room, i .short, c .before .before .loop-test .taken)
 
 add-at : tie.Need-add-at Inv-loop μ-loop
-add-at c = ?
+add-at c = omega (arith, c .before .before .number-into .ensures .1, c .before .before .before .before .before .before .loop .inv .short, c .before .before .before .before .before .before .loop .inv .few)
 
 add-k : tie.Need-add-k Inv-loop μ-loop
 add-k c = omega arith
@@ -53,7 +58,7 @@ loop-less : tie.Need-loop-less Inv-loop μ-loop
 loop-less c = omega arith
 
 loop-again : tie.Need-loop-again Inv-loop μ-loop
-loop-again c = ?
+loop-again c = numbered-on (c .before .before .before .before .before .before .loop .inv) (c .before .before .before .before .before .loop-test .taken) (c .before .before .number-into .ensures)
 
 same-length : tie.Need-same-length Inv-loop μ-loop
 same-length c = numbered-length (c .before .loop .inv)
