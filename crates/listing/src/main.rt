@@ -5,17 +5,20 @@
 // Proved: it ends and breaks nothing; each run is the definition's (crate `lexer`), and the bytes handed to be written are
 // the definition's lines of its records (src/line.rt). What it writes for document 01's text is compared with the file
 // stdout. Assumed: what `libc` and `os` declare of reading and writing; a read that fails counts as the end.
+mod kind_names;
+mod line;
 use definition::State;
 use lexer::run;
 use libc::STDIN_FILENO;
 use libc::STDOUT_FILENO;
+use line::lines_into;
 use state::start;
-mod kind_names;
-mod line;
 ghost use mathlib.Core.Path.{_≡_};
 ghost use lib.ListN.{length};
 ghost use Rattle.io.specs.Counts.{Counts};
-ghost use Rattle.listing.specs.Buffers.{Lent, Begun};
+ghost use Rattle.definition.specs.Tables.{cps};
+ghost use Rattle.definition.specs.Run.{run};
+ghost use Rattle.listing.specs.Rounds.{Lent, Begun, Rounded};
 
 // The longest text that is listed.
 const TEXT_LIMIT: usize = 60000;
@@ -50,7 +53,54 @@ fn say(word: &[u8], number: u64) {
     io::write_all(STDOUT_FILENO, b"\n");
 }
 
-// Runs on from a state until the end, and writes the lines of each run's items at once.
+// What one run gave: it was refused, or its items are lines at the front of the buffer, with why it stopped and the state to
+// run on from.
+enum Round {
+    Refused(u32),
+    Lines {
+        bytes: usize,
+        items: u32,
+        stop: u32,
+        next: State,
+    },
+}
+
+// Runs once, and makes lines of the items.
+fn run_once(
+    text: &[u8],
+    classes: &[u8],
+    st: State,
+    records: &mut [u32],
+    payload: &mut [u8],
+    out: &mut [u8],
+) -> Round
+    requires { ⌜ Lent (now records) (now out) ⌝ }
+    ensures { λ r. ⌜ Rounded (run (now (text .entry)) (cps "stdin") (now (classes .entry)) st (now (records .entry)) (now (payload .entry))) (now (out .entry)) r (now (out .exit)) ⌝ }
+{
+    let answer = run(text, b"stdin", classes, st, records, payload);
+    if answer.refusal != 0 {
+        return Round::Refused(answer.refusal);
+    }
+    let bytes = lines_into(records, answer.count as usize, out);
+    let next = answer.state;
+    Round::Lines {
+        bytes: bytes,
+        items: answer.count,
+        stop: answer.stop,
+        next: next,
+    }
+}
+
+// How the listing ends: refused, with all items listed, or, which never happens, stopped with no item written.
+enum Ending {
+    Refused(u32),
+    All(u64),
+    Stopped(u32),
+}
+
+// Runs on from a state until the end, and writes the lines of each run at once. A run is refused only if the first is, since
+// the state that a run hands back is sound. Each run but the last writes an item: all buffers are free again, and no payload
+// is longer than the buffer. So the items that are left fall with each run.
 fn list_from(
     text: &[u8],
     classes: &[u8],
@@ -58,29 +108,40 @@ fn list_from(
     records: &mut [u32],
     payload: &mut [u8],
     out: &mut [u8],
-)
+) -> Ending
     requires { ⌜ Begun (now text) begun × Lent (now records) (now out) ⌝ }
 {
     let mut st = begun;
-    let mut items: u64 = 0;
+    let mut listed: u64 = 0;
     loop {
-        let answer = run(text, b"stdin", classes, st, records, payload);
-        if answer.refusal != 0 {
-            say(b"REFUSED ", answer.refusal as u64);
-            return;
+        match run_once(text, classes, st, records, payload, out) {
+            Round::Refused(number) => return Ending::Refused(number),
+            Round::Lines {
+                bytes,
+                items,
+                stop,
+                next,
+            } => {
+                io::write_all(STDOUT_FILENO, &out[..bytes]);
+                listed += items as u64;
+                if stop == 0 {
+                    return Ending::All(listed);
+                }
+                if items == 0 {
+                    return Ending::Stopped(stop);
+                }
+                st = next;
+            }
         }
-        let used = line::lines_into(records, answer.count as usize, out);
-        io::write_all(STDOUT_FILENO, &out[..used]);
-        items += answer.count as u64;
-        if answer.stop == 0 {
-            say(b"END ", items);
-            return;
-        }
-        if answer.count == 0 {
-            say(b"STOPPED ", answer.stop as u64);
-            return;
-        }
-        st = answer.state;
+    }
+}
+
+// The last line.
+fn say_ending(ending: Ending) {
+    match ending {
+        Ending::Refused(number) => say(b"REFUSED ", number as u64),
+        Ending::All(items) => say(b"END ", items),
+        Ending::Stopped(stop) => say(b"STOPPED ", stop as u64),
     }
 }
 
@@ -94,14 +155,15 @@ fn list(text: &[u8], classes: &[u8]) {
     let mut records = record_buffer();
     let mut payload = payload_buffer();
     let mut out = line_buffer();
-    list_from(
+    let st = begun.state;
+    say_ending(list_from(
         text,
         classes,
-        begun.state,
+        st,
         &mut records,
         &mut payload,
         &mut out,
-    );
+    ));
 }
 
 // Reads classes.bin, one byte more than a class file may have, and answers how many bytes came.

@@ -1,5 +1,4 @@
 -- The numbers stand behind the name, and the line feed behind them.
-use mathlib.Core.Path.{_∙_}
 use native.Mathlib.Omega.{arith}
 use lib.ListN.{length-set}
 use Rattle.listing.proofs.LineLaws.{wrote-more, wrote-length, line-wrote}
@@ -34,8 +33,8 @@ add-result c = search needs
 same-length : tie.Need-same-length
 same-length c =
     let g = c .before .before .before .before .before .before .before .before .before .before in
-    let w = wrote-more (c .before .before .before .before .before .before .head-into .ensures .0) (c .before .before .numbers-into .ensures .0) in
-    length-set _ _ _ ∙ wrote-length w (omega (arith, c .before .before .before .before .before .before .head-into .ensures .1, c .before .before .numbers-into .ensures .1, g .pre .1))
+    let w = wrote-more {l = g .args .out .now} (c .before .before .before .before .before .before .head-into .ensures .0) (c .before .before .numbers-into .ensures .0) in
+    simp length-set (wrote-length w (omega (arith, c .before .before .before .before .before .before .head-into .ensures .1, c .before .before .numbers-into .ensures .1, g .pre .1)))
 
 returns : tie.Need-returns
 returns c =

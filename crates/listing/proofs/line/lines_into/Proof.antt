@@ -74,7 +74,7 @@ loop-less c = omega arith
 loop-again : tie.Need-loop-again Inv-loop μ-loop
 loop-again c =
     let l = c .before .before .before .before .before .before in
-    (lined-on (l .loop .inv .0) (record-at _ _) (c .before .before .line-into .ensures), omega arith)
+    (lined-on (l .loop .inv .0) (record-at (l .loop .k) (l .before .before .before .args .records .now)) (c .before .before .line-into .ensures), omega arith)
 
 same-length : tie.Need-same-length Inv-loop μ-loop
 same-length c = lined-length (c .before .loop .inv .0) (omega (arith, c .before .loop .inv .1, c .before .before .before .before .pre .lines))

@@ -1,0 +1,42 @@
+-- What the listing's runs are lent, where they begin, and what a round of the listing, one run, promises.
+use Prim.Native.Nat.{ℕ, _≤_}
+use mathlib.Core.Path.{_≡_}
+use mathlib.Core.List.{List}
+use lib.ListN.{length}
+use Rattle.definition.specs.Basics.{Bytes}
+use Rattle.definition.specs.State.{started}
+use Rattle.definition.specs.Run.{Outcome}
+use Rattle.definition.specs.declared.State.{State}
+use Rattle.lemmas.specs.Over.{Wrote}
+use Rattle.listing.specs.Line.{lines}
+use Rattle.listing.specs.declared.Round.{Round}
+use Rattle.listing.specs.declared.Round.the-variants.{Refused, Lines}
+
+-- a text that is listed, and its start
+pub record Begun (s : Bytes) (st : State) : Type 0 where
+  pub short : length s ≤ 60000
+  pub is : st ≡ started 1 0
+
+-- records for 1,024 items, and room for their lines
+pub record Lent (rs : List ℕ) (out : Bytes) : Type 0 where
+  pub records : length rs ≡ 16384
+  pub lines : length out ≡ 108544
+
+-- a run with the outcome o was refused with this number, and the buffer is as it was
+pub record Refuses (o : Outcome) (before : Bytes) (number : ℕ) (after : Bytes) : Type 0 where
+  pub refusal : o .0 .refusal ≡ number
+  pub some : number ≡ 0 → ⊥
+  pub same : after ≡ before
+
+-- the lines of the items of a run with the outcome o, and nothing else, were written to the buffer
+pub record Lists (o : Outcome) (before : Bytes) (bytes items stop : ℕ) (next : State) (after : Bytes) : Type 0 where
+  pub taken : o .0 .refusal ≡ 0
+  pub all-items : items ≡ o .0 .count
+  pub reason : stop ≡ o .0 .stop
+  pub state : next ≡ o .0 .state
+  pub written : Wrote (lines (o .0 .count) (o .1)) before after bytes
+
+-- what a round answers, and leaves in the buffer
+abbrev pub Rounded : Outcome → Bytes → Round → Bytes → Type 0
+Rounded o before (Refused number) after = Refuses o before number after
+Rounded o before (Lines bytes items stop next) after = Lists o before bytes items stop next after
