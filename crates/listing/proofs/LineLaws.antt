@@ -94,6 +94,11 @@ wrote-more {a} {b} {l} {now} {tail} {at} u w = record {
 pub wrote-length : {a l now : List ℕ} {at : ℕ} → Wrote a l now at → at ≤ length l → length now ≡ length l
 wrote-length {a} {l} u h = ap length (u .bytes) ∙ length-over a l (omega (arith, u .all))
 
+-- what was written lies in the buffer
+pub wrote-within : {a l now : List ℕ} {at : ℕ} → Wrote a l now at → at ≤ length now
+unfolding over
+wrote-within {a} {l} u = omega (arith, u .all, ap length (u .bytes), length-append a (drop (length a) l))
+
 -- what is lent of a buffer from `at` on
 pub tail-size : (l : List ℕ) (at : ℕ) → length (midOf at (length l - at) l) ≡ length l - at
 tail-size l at = simp (length-take, length-drop) (omega arith)

@@ -1,6 +1,6 @@
 -- Runs one after another: each that writes an item leaves fewer to come. Rests on the laws of runs (crate `runs`).
 use Prim.Native.Nat.{ℕ, _+_, _*_, _≤_}
-use mathlib.Core.Path.{_≡_, sym, ap, subst, _∙_}
+use mathlib.Core.Path.{_≡_, refl, sym, ap, subst, _∙_}
 use mathlib.Core.List.{List, [], _∷_}
 use native.Mathlib.Omega.{arith}
 use lib.Dec.{eqb}
@@ -11,12 +11,16 @@ use Rattle.definition.specs.Item.{Step, record-size}
 use Rattle.definition.specs.Run.{Outcome, refusal, run}
 use Rattle.definition.specs.declared.State.{State}
 use Rattle.definition.specs.declared.RunAnswer.{RunAnswer}
+use Rattle.lemmas.specs.Over.{Wrote}
 use Rattle.lemmas.proofs.Cases.{by-outcome}
 use Rattle.progress.proofs.Moves.{left, Opened}
 use Rattle.soundness.proofs.Refusals.{run-accepted}
 use Rattle.runs.specs.Items.{Steps}
 use Rattle.runs.proofs.Items.{step-left}
 use Rattle.runs.proofs.Laws.{run-refused, run-done}
+use Rattle.listing.specs.Line.{lines}
+use Rattle.listing.specs.Writing.{Room}
+use Rattle.listing.specs.Rounds.{Begun, Lent, Refuses, Lists}
 
 -- what a run that isn't refused did: its records fit, and so many items fewer are to come
 pub record Moved (s : Bytes) (st : State) (rs : List ℕ) (r : RunAnswer) : Type 0 where
@@ -39,16 +43,81 @@ module _ (s name f : Bytes) where
         by-outcome (eqb (refusal s name f st .0) 0) (λ t. eqb-true _ 0 t) λ t.
         sym (ap (λ (o : Outcome). o .0 .refusal) (run-refused s name f st rs ps (eqb-false _ 0 t))) ∙ e
 
-    pub run-moved : (r : RunAnswer) (rs′ : List ℕ) (ps′ : Bytes) → _≡_ {A = Outcome} (r, rs′, ps′) (run s name f st rs ps) → r .refusal ≡ 0
-        → Moved s st rs r
-    run-moved r rs′ ps′ e z =
-        let a : r ≡ run s name f st rs ps .0 = ap (λ (o : Outcome). o .0) e in
-        let taken = run-taken (sym (ap (λ (x : RunAnswer). x .refusal) a) ∙ z) in
+    -- what it did
+    pub run-moved : run s name f st rs ps .0 .refusal ≡ 0 → Moved s st rs (run s name f st rs ps .0)
+    run-moved z =
+        let taken = run-taken z in
         let d = run-done s name f st rs ps taken in
-        let c : r .count ≡ length (d .ts) = ap (λ (x : RunAnswer). x .count) a ∙ d .count in
-        let b : r .state ≡ run s name f st rs ps .0 .state = ap (λ (x : RunAnswer). x .state) a in
         let w = steps-fewer st (d .ts) (run s name f st rs ps .0 .state) (run-accepted s name f st taken .stands .sound .opened) (d .filled .steps) in
-        record {
-          fits = omega (arith, c, d .filled .records-fit);
-          fewer = omega (arith, c, w, ap (left s) b);
-        }
+        record { fits = omega (arith, d .count, d .filled .records-fit); fewer = omega (arith, d .count, w) }
+
+-- ---- one round
+
+module _ (o : Outcome) {r : RunAnswer} {rs : List ℕ} {ps : Bytes} (e : _≡_ {A = Outcome} (r, rs, ps) o) where
+  -- the run's answer
+  answer-is : r ≡ o .0
+  answer-is = ap (λ (x : Outcome). x .0) e
+
+  pub round-refused : (before : Bytes) → (r .refusal ≡ 0 → ⊥) → Refuses o before (r .refusal) before
+  round-refused before n = record { refusal = ap (λ (a : RunAnswer). a .refusal) (sym answer-is); some = n; same = refl }
+
+  pub round-listed : {before after : Bytes} {bytes : ℕ} → r .refusal ≡ 0 → Wrote (lines (r .count) rs) before after bytes
+      → Lists o before bytes (r .count) (r .stop) (r .state) after
+  round-listed {before} {after} {bytes} z w = record {
+    taken = ap (λ (a : RunAnswer). a .refusal) (sym answer-is) ∙ z;
+    all-items = ap (λ (a : RunAnswer). a .count) answer-is;
+    reason = ap (λ (a : RunAnswer). a .stop) answer-is;
+    state = ap (λ (a : RunAnswer). a .state) answer-is;
+    written = subst (λ (x : Outcome). Wrote (lines (x .0 .count) (x .1)) before after bytes) e w;
+  }
+
+-- there is room for the lines of a run's items
+pub round-room : (s name f : Bytes) (st : State) (rs : List ℕ) (ps : Bytes) {r : RunAnswer} {rs′ : List ℕ} {ps′ out : Bytes}
+    → _≡_ {A = Outcome} (r, rs′, ps′) (run s name f st rs ps) → r .refusal ≡ 0 → Lent rs out → length rs′ ≡ length rs → Room rs′ (r .count) out
+round-room s name f st rs ps e z l k =
+    let a = ap (λ (x : Outcome). x .0) e in
+    let m = run-moved s name f st rs ps (ap (λ (x : RunAnswer). x .refusal) (sym a) ∙ z) in
+    let c = ap (λ (x : RunAnswer). x .count) a in
+    record { records = omega (arith, m .fits, c, k); lines = omega (arith, m .fits, c, l .records, l .lines) }
+
+-- ---- the rounds
+
+-- where the listing stands: the buffers have the lengths that they were lent with, and the items listed with those that are left are not
+-- more than the bytes of the text and one
+pub record Going (s : Bytes) (rs₀ : List ℕ) (ps₀ out₀ : Bytes) (rs : List ℕ) (ps out : Bytes) (st : State) (listed : ℕ) : Type 0 where
+  pub lent : Lent rs out
+  pub records : length rs ≡ length rs₀
+  pub payload : length ps ≡ length ps₀
+  pub lines : length out ≡ length out₀
+  pub few : listed + left s st ≤ 60001
+
+pub going-starts : (s : Bytes) (rs : List ℕ) (ps out : Bytes) (st : State) → Begun s st → Lent rs out → Going s rs ps out rs ps out st 0
+going-starts s rs ps out st b l = record {
+  lent = l;
+  records = refl;
+  payload = refl;
+  lines = refl;
+  few = rw (b .is) (omega (arith, b .short));
+}
+
+module _ {s : Bytes} (name f : Bytes) {rs₀ : List ℕ} {ps₀ out₀ : Bytes} {rs : List ℕ} {ps out out′ : Bytes} {st next : State} {listed bytes items stop : ℕ}
+    (g : Going s rs₀ ps₀ out₀ rs ps out st listed) (l : Lists (run s name f st rs ps) out bytes items stop next out′) where
+  -- so many items fewer are left
+  pub round-fewer : items + left s next ≤ left s st
+  round-fewer =
+      let m = run-moved s name f st rs ps (l .taken) in
+      omega (arith, m .fewer, l .all-items, ap (left s) (l .state))
+
+  -- their count is small
+  pub round-few : listed + items ≤ 60001
+  round-few = omega (arith, round-fewer, g .few)
+
+  pub going-on : {rs′ : List ℕ} {ps′ : Bytes} → length rs′ ≡ length rs → length ps′ ≡ length ps → length out′ ≡ length out
+      → Going s rs₀ ps₀ out₀ rs′ ps′ out′ next (listed + items)
+  going-on p q r = record {
+    lent = record { records = p ∙ g .lent .records; lines = r ∙ g .lent .lines };
+    records = p ∙ g .records;
+    payload = q ∙ g .payload;
+    lines = r ∙ g .lines;
+    few = omega (arith, round-fewer, g .few);
+  }

@@ -1,109 +1,100 @@
+-- The invariant is `Going`; the measure is what is left to read, which falls with each item.
+use mathlib.Core.Path.{sym, _∙_}
+use lib.Seq.{length-take-le}
 use native.Mathlib.Omega.{arith}
+use Rattle.progress.proofs.Moves.{left}
+use Rattle.listing.proofs.LineLaws.{wrote-within}
+use Rattle.listing.proofs.RunsOn.{Going, going-starts, going-on, round-fewer, round-few}
 use borrow.Author.Needs.{needs}
 use Rattle.listing.proofs.list_from.Statement.{statement}
 use Rattle.listing.proofs.list_from.Tie as tie
-use Rattle.listing.proofs.list_from.Reads as reads
-use Rattle.listing.proofs.list_from.Lts as lts
-use Rattle.io.proofs.write_all.Reads as write-all-reads
-use Rattle.listing.proofs.run_once.Reads as run-once-reads
 
 abbrev Inv-loop : tie.InvT-loop
-Inv-loop text classes records₀ payload₀ out₀ st₀ listed₀ records payload out st listed = ?
+Inv-loop text classes records₀ payload₀ out₀ st₀ listed₀ records payload out st listed =
+    Going text records₀ payload₀ out₀ records payload out st listed
 
 abbrev μ-loop : tie.MeasureT-loop
-μ-loop text classes records₀ payload₀ out₀ st₀ listed₀ records payload out st listed = ?
+μ-loop text classes records₀ payload₀ out₀ st₀ listed₀ records payload out st listed = left text st
 
--- src/main.rt:116:5
 loop-holds : tie.Need-loop-holds Inv-loop μ-loop
-loop-holds c = ?
+loop-holds c = going-starts _ _ _ _ _ (c .before .before .before .before .before .pre .0) (c .before .before .before .before .before .pre .1)
 
--- src/main.rt:117:15
 run-once-requires : tie.Need-run-once-requires Inv-loop μ-loop
-run-once-requires c κs = ?
+run-once-requires c κs = c .before .before .before .loop .inv .lent
 
--- src/main.rt:118:28
 enum-known-number : tie.Need-enum-known-number Inv-loop μ-loop
-enum-known-number c = ?
+enum-known-number c = search needs
 
--- src/main.rt:118:39
 same-length : tie.Need-same-length Inv-loop μ-loop
-same-length c = ?
+same-length c = c .before .before .before .before .before .before .before .before .before .run-once .kept .1 .1 .1 .0 ∙ c .before .before .before .before .before .before .before .before .before .before .before .before .before .loop .inv .records
 
--- src/main.rt:118:39
 same-length-2 : tie.Need-same-length-2 Inv-loop μ-loop
-same-length-2 c = ?
+same-length-2 c = c .before .before .before .before .before .before .before .before .before .run-once .kept .1 .1 .1 .1 .0 ∙ c .before .before .before .before .before .before .before .before .before .before .before .before .before .loop .inv .payload
 
--- src/main.rt:118:39
 same-length-3 : tie.Need-same-length-3 Inv-loop μ-loop
-same-length-3 c = ?
+same-length-3 c = c .before .before .before .before .before .before .before .before .before .run-once .kept .1 .1 .1 .1 .1 .0 ∙ c .before .before .before .before .before .before .before .before .before .before .before .before .before .loop .inv .lines
 
--- src/main.rt:118:39
 returns : tie.Need-returns Inv-loop μ-loop
-returns c = ?
+returns c = search needs
 
--- src/main.rt:120:17
 enum-known-bytes : tie.Need-enum-known-bytes Inv-loop μ-loop
-enum-known-bytes c = ?
+enum-known-bytes c = search needs
 
--- src/main.rt:125:46
 slice-reshare-prefix-write-all : tie.Need-slice-reshare-prefix-write-all Inv-loop μ-loop
-slice-reshare-prefix-write-all c = ?
+slice-reshare-prefix-write-all c =
+    let l = rw (c .before .bytes .given .1) at (c .before .before .before .before .before .before .before .before .before .run-once .ensures) in
+    wrote-within (l .written)
 
--- src/main.rt:125:46
 slice-aggregate-write-all : tie.Need-slice-aggregate-write-all Inv-loop μ-loop
-slice-aggregate-write-all c = ?
+slice-aggregate-write-all c =
+    let l = rw (c .before .before .bytes .given .1) at (c .before .before .before .before .before .before .before .before .before .before .run-once .ensures) in
+    sym (length-take-le _ _ (wrote-within (l .written)))
 
--- src/main.rt:125:17
 write-all-requires : tie.Need-write-all-requires Inv-loop μ-loop
-write-all-requires c κs = ?
+write-all-requires c κs = search needs
 
--- src/main.rt:126:27
 cast-listed : tie.Need-cast-listed Inv-loop μ-loop
-cast-listed c = ?
+cast-listed c = search needs
 
--- src/main.rt:126:17
 add-listed : tie.Need-add-listed Inv-loop μ-loop
-add-listed c = ?
+add-listed c =
+    let l = rw (c .before .before .before .bytes .given .1) at (c .before .before .before .before .before .before .before .before .before .before .before .run-once .ensures) in
+    record { fits = omega (arith, round-few _ _ (c .before .before .before .before .before .before .before .before .before .before .before .before .before .before .before .loop .inv) l) }
 
--- src/main.rt:128:21
 same-length-4 : tie.Need-same-length-4 Inv-loop μ-loop
-same-length-4 c = ?
+same-length-4 c = c .before .before .before .before .before .before .before .before .before .before .before .before .run-once .kept .1 .1 .1 .0 ∙ c .before .before .before .before .before .before .before .before .before .before .before .before .before .before .before .before .loop .inv .records
 
--- src/main.rt:128:21
 same-length-5 : tie.Need-same-length-5 Inv-loop μ-loop
-same-length-5 c = ?
+same-length-5 c = c .before .before .before .before .before .before .before .before .before .before .before .before .run-once .kept .1 .1 .1 .1 .0 ∙ c .before .before .before .before .before .before .before .before .before .before .before .before .before .before .before .before .loop .inv .payload
 
--- src/main.rt:128:21
 same-length-6 : tie.Need-same-length-6 Inv-loop μ-loop
-same-length-6 c = ?
+same-length-6 c = c .before .before .before .before .before .before .before .before .before .before .before .before .run-once .kept .1 .1 .1 .1 .1 .0 ∙ c .before .before .before .before .before .before .before .before .before .before .before .before .before .before .before .before .loop .inv .lines
 
--- src/main.rt:128:21
 returns-2 : tie.Need-returns-2 Inv-loop μ-loop
-returns-2 c = ?
+returns-2 c = search needs
 
--- src/main.rt:131:21
 same-length-7 : tie.Need-same-length-7 Inv-loop μ-loop
-same-length-7 c = ?
+same-length-7 c = c .before .before .before .before .before .before .before .before .before .before .before .before .before .run-once .kept .1 .1 .1 .0 ∙ c .before .before .before .before .before .before .before .before .before .before .before .before .before .before .before .before .before .loop .inv .records
 
--- src/main.rt:131:21
 same-length-8 : tie.Need-same-length-8 Inv-loop μ-loop
-same-length-8 c = ?
+same-length-8 c = c .before .before .before .before .before .before .before .before .before .before .before .before .before .run-once .kept .1 .1 .1 .1 .0 ∙ c .before .before .before .before .before .before .before .before .before .before .before .before .before .before .before .before .before .loop .inv .payload
 
--- src/main.rt:131:21
 same-length-9 : tie.Need-same-length-9 Inv-loop μ-loop
-same-length-9 c = ?
+same-length-9 c = c .before .before .before .before .before .before .before .before .before .before .before .before .before .run-once .kept .1 .1 .1 .1 .1 .0 ∙ c .before .before .before .before .before .before .before .before .before .before .before .before .before .before .before .before .before .loop .inv .lines
 
--- src/main.rt:131:21
 returns-3 : tie.Need-returns-3 Inv-loop μ-loop
-returns-3 c = ?
+returns-3 c = search needs
 
--- src/main.rt:116:5
 loop-less : tie.Need-loop-less Inv-loop μ-loop
-loop-less c = ?
+loop-less c =
+    let l = rw (c .before .before .before .before .before .bytes .given .1) at (c .before .before .before .before .before .before .before .before .before .before .before .before .before .run-once .ensures) in
+    omega (arith, round-fewer _ _ (c .before .before .before .before .before .before .before .before .before .before .before .before .before .before .before .before .before .loop .inv) l, c .if2 .left)
 
--- src/main.rt:116:5
 loop-again : tie.Need-loop-again Inv-loop μ-loop
-loop-again c = ?
+loop-again c =
+    let l = rw (c .before .before .before .before .before .bytes .given .1) at (c .before .before .before .before .before .before .before .before .before .before .before .before .before .run-once .ensures) in
+    let k = c .before .before .before .before .before .before .before .before .before .before .before .before .before .run-once .kept in
+    going-on _ _ (c .before .before .before .before .before .before .before .before .before .before .before .before .before .before .before .before .before .loop .inv) l (k .1 .1 .1 .0) (k .1 .1 .1 .1 .0) (k .1 .1 .1 .1 .1 .0)
 
 pub list-from-spec : {M : Type 1} → statement M
 list-from-spec =

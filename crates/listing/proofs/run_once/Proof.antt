@@ -1,55 +1,47 @@
-use native.Mathlib.Omega.{arith}
+-- A refused run is said to be, and the lines are those of the records that the run left.
+use Rattle.definition.specs.Utf8.{encode, encode-all}
+use Rattle.definition.specs.Tables.{cps}
+use Rattle.listing.proofs.RunsOn.{round-refused, round-listed, round-room}
 use borrow.Author.Needs.{needs}
 use Rattle.listing.proofs.run_once.Statement.{statement}
 use Rattle.listing.proofs.run_once.Tie as tie
-use Rattle.listing.proofs.run_once.Reads as reads
-use Rattle.listing.proofs.run_once.Lts as lts
-use Rattle.lexer.proofs.run.Reads as run-reads
-use Rattle.listing.proofs.line.lines_into.Reads as lines-into-reads
 
--- src/main.rt:80:28
 slice-aggregate-run : tie.Need-slice-aggregate-run
 slice-aggregate-run c = search needs
 
--- src/main.rt:80:9
 run-requires : tie.Need-run-requires
 run-requires c κs = search needs
 
--- src/main.rt:82:9
 same-length : tie.Need-same-length
 same-length c = search needs
 
--- src/main.rt:82:9
 same-length-2 : tie.Need-same-length-2
 same-length-2 c = search needs
 
--- src/main.rt:82:9
 returns : tie.Need-returns
-returns c = ?
+unfolding cps encode-all encode
+returns c = round-refused _ (c .before .before .before .before .before .before .run .ensures .0) _ (c .if1 .taken)
 
--- src/main.rt:84:37
 cast-lines-into : tie.Need-cast-lines-into
 cast-lines-into c = search needs
 
--- src/main.rt:84:9
 lines-into-requires : tie.Need-lines-into-requires
-lines-into-requires c κs = ?
+lines-into-requires c κs =
+    let r = c .before .before .before .before .before .before .before .before .before in
+    round-room _ _ _ _ _ _ (r .run .ensures .0) (c .before .before .before .if1 .left) (c .before .before .before .before .before .before .before .before .before .before .before .before .before .before .before .before .before .before .pre) (r .run .kept .1 .1 .1 .1 .0)
 
--- src/main.rt:69:1
 same-length-3 : tie.Need-same-length-3
 same-length-3 c = search needs
 
--- src/main.rt:69:1
 same-length-4 : tie.Need-same-length-4
 same-length-4 c = search needs
 
--- src/main.rt:69:1
 same-length-5 : tie.Need-same-length-5
 same-length-5 c = search needs
 
--- src/main.rt:69:1
 returns-2 : tie.Need-returns-2
-returns-2 c = ?
+unfolding cps encode-all encode
+returns-2 c = round-listed _ (c .before .before .before .before .before .before .before .before .before .before .before .before .before .run .ensures .0) (c .before .before .before .before .before .before .before .if1 .left) (c .before .before .before .lines-into .ensures)
 
 pub run-once-spec : {M : Type 1} → statement M
 run-once-spec =
