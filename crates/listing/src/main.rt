@@ -7,6 +7,7 @@
 // stdout. Assumed: what `libc` and `os` declare of reading and writing; a read that fails counts as the end.
 mod kind_names;
 mod line;
+
 use definition::State;
 use lexer::run;
 use libc::STDIN_FILENO;
@@ -156,14 +157,7 @@ fn list(text: &[u8], classes: &[u8]) {
     let mut payload = payload_buffer();
     let mut out = line_buffer();
     let st = begun.state;
-    say_ending(list_from(
-        text,
-        classes,
-        st,
-        &mut records,
-        &mut payload,
-        &mut out,
-    ));
+    say_ending(list_from(text, classes, st, &mut records, &mut payload, &mut out));
 }
 
 // Reads classes.bin, one byte more than a class file may have, and answers how many bytes came.

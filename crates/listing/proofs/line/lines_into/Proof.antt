@@ -56,9 +56,10 @@ line-into-requires : tie.Need-line-into-requires Inv-loop μ-loop
 line-into-requires c κs =
     let l = c .before .before .before in
     let i = l .loop .inv in
-    let g = l .before .before .before in
-    (simp (length-take, length-drop) (omega (arith, g .pre .records, c .before .before .loop-test .taken)),
-    omega (arith, tail-size (l .loop .out) (l .loop .at), lined-length (i .0) (omega (arith, i .1, g .pre .lines)), i .0 .short, g .pre .lines, c .before .before .loop-test .taken))
+    let g = l .before .before .before in (
+      simp (length-take, length-drop) (omega (arith, g .pre .records, c .before .before .loop-test .taken)),
+      omega (arith, tail-size (l .loop .out) (l .loop .at), lined-length (i .0) (omega (arith, i .1, g .pre .lines)), i .0 .short, g .pre .lines, c .before .before .loop-test .taken),
+    )
 
 add-at : tie.Need-add-at Inv-loop μ-loop
 add-at c =
