@@ -1,4 +1,5 @@
--- Runs one after another: each that writes an item leaves fewer to come. Rests on the laws of runs (crate `runs`).
+-- Runs one after another: each that isn't the last writes an item, and leaves fewer to come. Rests on the laws of runs (crate `runs`), and
+-- on the length of payloads.
 use Prim.Native.Nat.{ℕ, _+_, _*_, _≤_}
 use mathlib.Core.Path.{_≡_, refl, sym, ap, subst, _∙_}
 use mathlib.Core.List.{List, [], _∷_}
@@ -15,12 +16,15 @@ use Rattle.lemmas.specs.Over.{Wrote}
 use Rattle.lemmas.proofs.Cases.{by-outcome}
 use Rattle.progress.proofs.Moves.{left, Opened}
 use Rattle.soundness.proofs.Refusals.{run-accepted}
+use Rattle.state.specs.Sound.{Stands}
 use Rattle.runs.specs.Items.{Steps}
+use Rattle.runs.specs.Written.{payloads-of, Stops}
 use Rattle.runs.proofs.Items.{step-left}
 use Rattle.runs.proofs.Laws.{run-refused, run-done}
 use Rattle.listing.specs.Line.{lines}
 use Rattle.listing.specs.Writing.{Room}
 use Rattle.listing.specs.Rounds.{Begun, Lent, Refuses, Lists}
+use Rattle.listing.proofs.PayloadSize.{longest-payload, payload-short}
 
 -- what a run that isn't refused did: its records fit, and so many items fewer are to come
 pub record Moved (s : Bytes) (st : State) (rs : List ℕ) (r : RunAnswer) : Type 0 where
@@ -51,6 +55,25 @@ module _ (s name f : Bytes) where
         let w = steps-fewer st (d .ts) (run s name f st rs ps .0 .state) (run-accepted s name f st taken .stands .sound .opened) (d .filled .steps) in
         record { fits = omega (arith, d .count, d .filled .records-fit); fewer = omega (arith, d .count, w) }
 
+    -- a run that stops for want of room has written an item, if the buffers have room for any one item
+    module _ (room : record-size ≤ length rs) (space : longest-payload s ≤ length ps) (named : length name ≤ 50) where
+      some-written : (ts : List Step) (b : State) (stop : ℕ) → Stands s st → Steps s name f st ts b
+          → Stops s name f rs ps (length ts) (length (payloads-of ts)) b stop → (stop ≡ 0 → ⊥) → 1 ≤ length ts
+      unfolding payloads-of
+      some-written [] b stop h e w n =
+          by-outcome (eqb stop 1)
+          (λ t. absurd (omega (arith, w .records-full .0 (eqb-true stop 1 t) .1))) λ t.
+          let m : stop ≡ 1 → ⊥ = eqb-false stop 1 t in
+          let q = w .payload-full .0 (omega (arith, w .one-of)) in
+          absurd (omega (arith, q .2, payload-short s name f named b (subst (Stands s) e h) (q .0)))
+      some-written (t ∷ ts) b stop h e w n = omega arith
+
+      pub run-writes : run s name f st rs ps .0 .refusal ≡ 0 → (run s name f st rs ps .0 .stop ≡ 0 → ⊥) → 1 ≤ run s name f st rs ps .0 .count
+      run-writes z n =
+          let taken = run-taken z in
+          let d = run-done s name f st rs ps taken in
+          omega (arith, d .count, some-written (d .ts) _ _ (run-accepted s name f st taken .stands) (d .filled .steps) (d .stops) n)
+
 -- ---- one round
 
 module _ (o : Outcome) {r : RunAnswer} {rs : List ℕ} {ps : Bytes} (e : _≡_ {A = Outcome} (r, rs, ps) o) where
@@ -73,7 +96,7 @@ module _ (o : Outcome) {r : RunAnswer} {rs : List ℕ} {ps : Bytes} (e : _≡_ {
 
 -- there is room for the lines of a run's items
 pub round-room : (s name f : Bytes) (st : State) (rs : List ℕ) (ps : Bytes) {r : RunAnswer} {rs′ : List ℕ} {ps′ out : Bytes}
-    → _≡_ {A = Outcome} (r, rs′, ps′) (run s name f st rs ps) → r .refusal ≡ 0 → Lent rs out → length rs′ ≡ length rs → Room rs′ (r .count) out
+    → _≡_ {A = Outcome} (r, rs′, ps′) (run s name f st rs ps) → r .refusal ≡ 0 → Lent rs ps out → length rs′ ≡ length rs → Room rs′ (r .count) out
 round-room s name f st rs ps e z l k =
     let a = ap (λ (x : Outcome). x .0) e in
     let m = run-moved s name f st rs ps (ap (λ (x : RunAnswer). x .refusal) (sym a) ∙ z) in
@@ -85,15 +108,17 @@ round-room s name f st rs ps e z l k =
 -- where the listing stands: the buffers have the lengths that they were lent with, and the items listed with those that are left are not
 -- more than the bytes of the text and one
 pub record Going (s : Bytes) (rs₀ : List ℕ) (ps₀ out₀ : Bytes) (rs : List ℕ) (ps out : Bytes) (st : State) (listed : ℕ) : Type 0 where
-  pub lent : Lent rs out
+  pub lent : Lent rs ps out
   pub records : length rs ≡ length rs₀
   pub payload : length ps ≡ length ps₀
   pub lines : length out ≡ length out₀
+  pub short : length s ≤ 60000
   pub few : listed + left s st ≤ 60001
 
-pub going-starts : (s : Bytes) (rs : List ℕ) (ps out : Bytes) (st : State) → Begun s st → Lent rs out → Going s rs ps out rs ps out st 0
+pub going-starts : (s : Bytes) (rs : List ℕ) (ps out : Bytes) (st : State) → Begun s st → Lent rs ps out → Going s rs ps out rs ps out st 0
 going-starts s rs ps out st b l = record {
   lent = l;
+  short = b .short;
   records = refl;
   payload = refl;
   lines = refl;
@@ -108,6 +133,12 @@ module _ {s : Bytes} (name f : Bytes) {rs₀ : List ℕ} {ps₀ out₀ : Bytes} 
       let m = run-moved s name f st rs ps (l .taken) in
       omega (arith, m .fewer, l .all-items, ap (left s) (l .state))
 
+  -- and one at least is written where the run isn't the last
+  pub round-wrote : length name ≤ 50 → (stop ≡ 0 → ⊥) → 1 ≤ items
+  round-wrote named n =
+      let w = run-writes s name f st rs ps (omega (arith, g .lent .records)) (omega (arith, g .short, g .lent .payload)) named (l .taken) (λ q. n (l .reason ∙ q)) in
+      omega (arith, w, l .all-items)
+
   -- their count is small
   pub round-few : listed + items ≤ 60001
   round-few = omega (arith, round-fewer, g .few)
@@ -115,7 +146,8 @@ module _ {s : Bytes} (name f : Bytes) {rs₀ : List ℕ} {ps₀ out₀ : Bytes} 
   pub going-on : {rs′ : List ℕ} {ps′ : Bytes} → length rs′ ≡ length rs → length ps′ ≡ length ps → length out′ ≡ length out
       → Going s rs₀ ps₀ out₀ rs′ ps′ out′ next (listed + items)
   going-on p q r = record {
-    lent = record { records = p ∙ g .lent .records; lines = r ∙ g .lent .lines };
+    short = g .short;
+    lent = record { records = p ∙ g .lent .records; payload = q ∙ g .lent .payload; lines = r ∙ g .lent .lines };
     records = p ∙ g .records;
     payload = q ∙ g .payload;
     lines = r ∙ g .lines;

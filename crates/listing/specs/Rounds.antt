@@ -17,9 +17,10 @@ pub record Begun (s : Bytes) (st : State) : Type 0 where
   pub short : length s ≤ 60000
   pub is : st ≡ started 1 0
 
--- records for 1,024 items, and room for their lines
-pub record Lent (rs : List ℕ) (out : Bytes) : Type 0 where
+-- records for 1,024 items, a payload that has room for any of a listed text, and room for the items' lines
+pub record Lent (rs : List ℕ) (ps out : Bytes) : Type 0 where
   pub records : length rs ≡ 16384
+  pub payload : length ps ≡ 262144
   pub lines : length out ≡ 108544
 
 -- a run with the outcome o was refused with this number, and the buffer is as it was

@@ -38,9 +38,8 @@ fn line_buffer() -> [u8; 108544]
     [0; 108544]
 }
 
-// Space for payloads. The longest that a listed text can have fits: a payload has no more than four bytes for each byte of
-// its item (`\x80` and the like become two, a sign that stands for a word seven for its two), two more where a comment isn't
-// closed, and `__FILELINE__` becomes a name of five bytes and a line's number.
+// Space for payloads. Any payload of a listed text fits: none has more than four bytes for each byte of the text and a hundred
+// (an unclosed comment has two bytes more than the text has of it, `__FILELINE__` the name and the line).
 fn payload_buffer() -> [u8; 262144]
     ensures { λ r. ⌜ 262144 ≡ length r ⌝ }
 {
@@ -75,7 +74,7 @@ fn run_once(
     payload: &mut [u8],
     out: &mut [u8],
 ) -> Round
-    requires { ⌜ Lent (now records) (now out) ⌝ }
+    requires { ⌜ Lent (now records) (now payload) (now out) ⌝ }
     ensures { λ r. ⌜ Rounded (run (now (text .entry)) (cps "stdin") (now (classes .entry)) st (now (records .entry)) (now (payload .entry))) (now (out .entry)) r (now (out .exit)) ⌝ }
 {
     let answer = run(text, b"stdin", classes, st, records, payload);
@@ -92,16 +91,15 @@ fn run_once(
     }
 }
 
-// How the listing ends: refused, with all items listed, or, which never happens, stopped with no item written.
+// How the listing ends: refused, or with so many items listed.
 enum Ending {
     Refused(u32),
     All(u64),
-    Stopped(u32),
 }
 
-// Runs on from a state until the end, and writes the lines of each run at once. A run is refused only if the first is, since
-// the state that a run hands back is sound. Each run but the last writes an item: all buffers are free again, and no payload
-// is longer than the buffer. So the items that are left fall with each run.
+// Runs on from a state until the end, and writes the lines of each run at once. Only the first run can be refused, since the
+// state that a run hands back is sound. Each run but the last writes an item, since both buffers are free again and have
+// room for any one item: so what is left to read falls with each run.
 fn list_from(
     text: &[u8],
     classes: &[u8],
@@ -110,7 +108,7 @@ fn list_from(
     payload: &mut [u8],
     out: &mut [u8],
 ) -> Ending
-    requires { ⌜ Begun (now text) begun × Lent (now records) (now out) ⌝ }
+    requires { ⌜ Begun (now text) begun × Lent (now records) (now payload) (now out) ⌝ }
 {
     let mut st = begun;
     let mut listed: u64 = 0;
@@ -128,9 +126,6 @@ fn list_from(
                 if stop == 0 {
                     return Ending::All(listed);
                 }
-                if items == 0 {
-                    return Ending::Stopped(stop);
-                }
                 st = next;
             }
         }
@@ -142,7 +137,6 @@ fn say_ending(ending: Ending) {
     match ending {
         Ending::Refused(number) => say(b"REFUSED ", number as u64),
         Ending::All(items) => say(b"END ", items),
-        Ending::Stopped(stop) => say(b"STOPPED ", stop as u64),
     }
 }
 

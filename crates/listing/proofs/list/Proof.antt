@@ -41,7 +41,7 @@ list-from-requires : tie.Need-list-from-requires
 unfolding start
 list-from-requires c κs = (
   record { short = omega (arith, c .before .before .before .before .before .before .before .before .if1 .left); is = ap (λ (a : StartAnswer). a .state) (c .before .before .before .before .before .before .before .start .ensures) },
-  record { records = sym (c .before .before .before .before .before .before .record-buffer .ensures); lines = sym (c .before .before .before .before .line-buffer .ensures) },
+  record { records = sym (c .before .before .before .before .before .before .record-buffer .ensures); payload = sym (c .before .before .before .before .before .payload-buffer .ensures); lines = sym (c .before .before .before .before .line-buffer .ensures) },
 )
 
 say-ending-requires : tie.Need-say-ending-requires

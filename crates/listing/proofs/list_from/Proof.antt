@@ -1,10 +1,12 @@
--- The invariant is `Going`; the measure is what is left to read, which falls with each item.
+-- The invariant is `Going`; the measure is what is left to read, which falls with each item, of which each round but the last writes one.
 use mathlib.Core.Path.{sym, _∙_}
-use lib.Seq.{length-take-le}
 use native.Mathlib.Omega.{arith}
+use lib.Seq.{length-take-le}
+use Rattle.definition.specs.Utf8.{encode, encode-all}
+use Rattle.definition.specs.Tables.{cps}
 use Rattle.progress.proofs.Moves.{left}
 use Rattle.listing.proofs.LineLaws.{wrote-within}
-use Rattle.listing.proofs.RunsOn.{Going, going-starts, going-on, round-fewer, round-few}
+use Rattle.listing.proofs.RunsOn.{Going, going-starts, going-on, round-fewer, round-wrote, round-few}
 use borrow.Author.Needs.{needs}
 use Rattle.listing.proofs.list_from.Statement.{statement}
 use Rattle.listing.proofs.list_from.Tie as tie
@@ -73,28 +75,18 @@ same-length-6 c = c .before .before .before .before .before .before .before .bef
 returns-2 : tie.Need-returns-2 Inv-loop μ-loop
 returns-2 c = search needs
 
-same-length-7 : tie.Need-same-length-7 Inv-loop μ-loop
-same-length-7 c = c .before .before .before .before .before .before .before .before .before .before .before .before .before .run-once .kept .1 .1 .1 .0 ∙ c .before .before .before .before .before .before .before .before .before .before .before .before .before .before .before .before .before .loop .inv .records
-
-same-length-8 : tie.Need-same-length-8 Inv-loop μ-loop
-same-length-8 c = c .before .before .before .before .before .before .before .before .before .before .before .before .before .run-once .kept .1 .1 .1 .1 .0 ∙ c .before .before .before .before .before .before .before .before .before .before .before .before .before .before .before .before .before .loop .inv .payload
-
-same-length-9 : tie.Need-same-length-9 Inv-loop μ-loop
-same-length-9 c = c .before .before .before .before .before .before .before .before .before .before .before .before .before .run-once .kept .1 .1 .1 .1 .1 .0 ∙ c .before .before .before .before .before .before .before .before .before .before .before .before .before .before .before .before .before .loop .inv .lines
-
-returns-3 : tie.Need-returns-3 Inv-loop μ-loop
-returns-3 c = search needs
-
 loop-less : tie.Need-loop-less Inv-loop μ-loop
+unfolding cps encode-all encode
 loop-less c =
-    let l = rw (c .before .before .before .before .before .bytes .given .1) at (c .before .before .before .before .before .before .before .before .before .before .before .before .before .run-once .ensures) in
-    omega (arith, round-fewer _ _ (c .before .before .before .before .before .before .before .before .before .before .before .before .before .before .before .before .before .loop .inv) l, c .if2 .left)
+    let l = rw (c .before .before .before .before .bytes .given .1) at (c .before .before .before .before .before .before .before .before .before .before .before .before .run-once .ensures) in
+    let g = c .before .before .before .before .before .before .before .before .before .before .before .before .before .before .before .before .loop .inv in
+    omega (arith, round-fewer _ _ g l, round-wrote _ _ g l (omega arith) (c .if1 .left))
 
 loop-again : tie.Need-loop-again Inv-loop μ-loop
 loop-again c =
-    let l = rw (c .before .before .before .before .before .bytes .given .1) at (c .before .before .before .before .before .before .before .before .before .before .before .before .before .run-once .ensures) in
-    let k = c .before .before .before .before .before .before .before .before .before .before .before .before .before .run-once .kept in
-    going-on _ _ (c .before .before .before .before .before .before .before .before .before .before .before .before .before .before .before .before .before .loop .inv) l (k .1 .1 .1 .0) (k .1 .1 .1 .1 .0) (k .1 .1 .1 .1 .1 .0)
+    let l = rw (c .before .before .before .before .bytes .given .1) at (c .before .before .before .before .before .before .before .before .before .before .before .before .run-once .ensures) in
+    let k = c .before .before .before .before .before .before .before .before .before .before .before .before .run-once .kept in
+    going-on _ _ (c .before .before .before .before .before .before .before .before .before .before .before .before .before .before .before .before .loop .inv) l (k .1 .1 .1 .0) (k .1 .1 .1 .1 .0) (k .1 .1 .1 .1 .1 .0)
 
 pub list-from-spec : {M : Type 1} → statement M
 list-from-spec =
@@ -119,9 +111,5 @@ list-from-spec =
     same-length-5
     same-length-6
     returns-2
-    same-length-7
-    same-length-8
-    same-length-9
-    returns-3
     loop-less
     loop-again)
