@@ -5,7 +5,7 @@ use mathlib.Core.Path.{_≡_, refl, sym, ap, subst, _∙_}
 use mathlib.Core.List.{List, [], _∷_}
 use native.Mathlib.Omega.{arith}
 use lib.Dec.{eqb}
-use lib.ListN.{length}
+use lib.ListN.{length, length-append}
 use borrow.Author.Tests.{eqb-true, eqb-false}
 use Rattle.definition.specs.Basics.{Bytes}
 use Rattle.definition.specs.Item.{Step, record-size}
@@ -17,13 +17,14 @@ use Rattle.lemmas.proofs.Cases.{by-outcome}
 use Rattle.progress.proofs.Moves.{left, Opened}
 use Rattle.soundness.proofs.Refusals.{run-accepted}
 use Rattle.state.specs.Sound.{Stands}
-use Rattle.runs.specs.Items.{Steps}
+use Rattle.runs.specs.Items.{steps-of, Steps}
 use Rattle.runs.specs.Written.{payloads-of, Stops}
-use Rattle.runs.proofs.Items.{step-left}
-use Rattle.runs.proofs.Laws.{run-refused, run-done}
+use Rattle.runs.proofs.Items.{step-left, steps-of-end, steps-then}
+use Rattle.runs.proofs.Laws.{run-refused, run-done, handed-back-taken}
 use Rattle.listing.specs.Line.{lines}
 use Rattle.listing.specs.Writing.{Room}
-use Rattle.listing.specs.Rounds.{Begun, Lent, Refuses, Lists}
+use Rattle.listing.specs.Rounds.{Begun, Lent, Refuses, Lists, Ends}
+use Rattle.listing.specs.declared.Ending.the-variants.{Refusal, All}
 use Rattle.listing.proofs.PayloadSize.{longest-payload, payload-short}
 
 -- what a run that isn't refused did: its records fit, and so many items fewer are to come
@@ -41,11 +42,32 @@ module _ (s name f : Bytes) where
       omega (arith, steps-fewer (t .next) ts b q rest, l .1, ap (λ (u : Step). left s (u .next)) e)
 
   module _ (st : State) (rs : List ℕ) (ps : Bytes) where
-    -- an answer without a refusal
+    -- what a run says of refusals
+    refusal-is : run s name f st rs ps .0 .refusal ≡ refusal s name f st .0
+    refusal-is =
+        by-outcome (eqb (refusal s name f st .0) 0)
+        (λ t. let z = eqb-true _ 0 t in run-done s name f st rs ps z .taken .0 ∙ sym z)
+        (λ t. ap (λ (o : Outcome). o .0 .refusal) (run-refused s name f st rs ps (eqb-false _ 0 t)))
+
+    -- an answer without one
     run-taken : run s name f st rs ps .0 .refusal ≡ 0 → refusal s name f st .0 ≡ 0
-    run-taken e =
-        by-outcome (eqb (refusal s name f st .0) 0) (λ t. eqb-true _ 0 t) λ t.
-        sym (ap (λ (o : Outcome). o .0 .refusal) (run-refused s name f st rs ps (eqb-false _ 0 t))) ∙ e
+    run-taken z = sym refusal-is ∙ z
+
+    -- the items that it wrote and those that are left are all
+    run-counts : run s name f st rs ps .0 .refusal ≡ 0
+        → run s name f st rs ps .0 .count + length (steps-of s name f (run s name f st rs ps .0 .state)) ≡ length (steps-of s name f st)
+    run-counts z =
+        let taken = run-taken z in
+        let d = run-done s name f st rs ps taken in
+        let b = run s name f st rs ps .0 .state in
+        let e = ap length (steps-then s name f st (d .ts) b (run-accepted s name f st taken .stands .sound .opened) (d .filled .steps)) in
+        omega (arith, e, length-append (d .ts) (steps-of s name f b), d .count)
+
+    -- at the end none is left
+    run-ended : run s name f st rs ps .0 .refusal ≡ 0 → run s name f st rs ps .0 .stop ≡ 0 → length (steps-of s name f (run s name f st rs ps .0 .state)) ≡ 0
+    run-ended z q =
+        let d = run-done s name f st rs ps (run-taken z) in
+        ap length (steps-of-end s name f (run s name f st rs ps .0 .state) (d .stops .at-end .0 q))
 
     -- what it did
     pub run-moved : run s name f st rs ps .0 .refusal ≡ 0 → Moved s st rs (run s name f st rs ps .0)
@@ -105,51 +127,80 @@ round-room s name f st rs ps e z l k =
 
 -- ---- the rounds
 
--- where the listing stands: the buffers have the lengths that they were lent with, and the items listed with those that are left are not
--- more than the bytes of the text and one
-pub record Going (s : Bytes) (rs₀ : List ℕ) (ps₀ out₀ : Bytes) (rs : List ℕ) (ps out : Bytes) (st : State) (listed : ℕ) : Type 0 where
+-- where the listing stands that began at st₀: the buffers have the lengths that they were lent with; the items listed with those that are
+-- left are all, and not more than the bytes of the text and one; and if it isn't refused here it wasn't at the start
+pub record Going (s name f : Bytes) (st₀ : State) (rs₀ : List ℕ) (ps₀ out₀ : Bytes) (rs : List ℕ) (ps out : Bytes) (st : State) (listed : ℕ) : Type 0 where
   pub lent : Lent rs ps out
   pub records : length rs ≡ length rs₀
   pub payload : length ps ≡ length ps₀
   pub lines : length out ≡ length out₀
   pub short : length s ≤ 60000
   pub few : listed + left s st ≤ 60001
+  pub count : listed + length (steps-of s name f st) ≡ length (steps-of s name f st₀)
+  pub refuses : refusal s name f st .0 ≡ refusal s name f st₀ .0
 
-pub going-starts : (s : Bytes) (rs : List ℕ) (ps out : Bytes) (st : State) → Begun s st → Lent rs ps out → Going s rs ps out rs ps out st 0
-going-starts s rs ps out st b l = record {
+pub going-starts : (s name f : Bytes) (rs : List ℕ) (ps out : Bytes) (st : State) → Begun s st → Lent rs ps out → Going s name f st rs ps out rs ps out st 0
+going-starts s name f rs ps out st b l = record {
   lent = l;
-  short = b .short;
   records = refl;
   payload = refl;
   lines = refl;
+  short = b .short;
   few = rw (b .is) (omega (arith, b .short));
+  count = omega arith;
+  refuses = refl;
 }
 
-module _ {s : Bytes} (name f : Bytes) {rs₀ : List ℕ} {ps₀ out₀ : Bytes} {rs : List ℕ} {ps out out′ : Bytes} {st next : State} {listed bytes items stop : ℕ}
-    (g : Going s rs₀ ps₀ out₀ rs ps out st listed) (l : Lists (run s name f st rs ps) out bytes items stop next out′) where
-  -- so many items fewer are left
-  pub round-fewer : items + left s next ≤ left s st
-  round-fewer =
-      let m = run-moved s name f st rs ps (l .taken) in
-      omega (arith, m .fewer, l .all-items, ap (left s) (l .state))
+module _ {s name f : Bytes} {st₀ : State} {rs₀ : List ℕ} {ps₀ out₀ : Bytes} {rs : List ℕ} {ps out : Bytes} {st : State} {listed : ℕ}
+    (g : Going s name f st₀ rs₀ ps₀ out₀ rs ps out st listed) where
+  -- a round that is refused ends the listing so
+  pub ends-refused : {number : ℕ} {out′ : Bytes} → Refuses (run s name f st rs ps) out number out′ → Ends s name f st₀ (Refusal number)
+  ends-refused r = (sym (r .refusal) ∙ refusal-is s name f st rs ps ∙ g .refuses, r .some)
 
-  -- and one at least is written where the run isn't the last
-  pub round-wrote : length name ≤ 50 → (stop ≡ 0 → ⊥) → 1 ≤ items
-  round-wrote named n =
-      let w = run-writes s name f st rs ps (omega (arith, g .lent .records)) (omega (arith, g .short, g .lent .payload)) named (l .taken) (λ q. n (l .reason ∙ q)) in
-      omega (arith, w, l .all-items)
+  module _ {out′ : Bytes} {next : State} {bytes items stop : ℕ} (l : Lists (run s name f st rs ps) out bytes items stop next out′) where
+    -- so many items fewer are left
+    pub round-fewer : items + left s next ≤ left s st
+    round-fewer =
+        let m = run-moved s name f st rs ps (l .taken) in
+        omega (arith, m .fewer, l .all-items, ap (left s) (l .state))
 
-  -- their count is small
-  pub round-few : listed + items ≤ 60001
-  round-few = omega (arith, round-fewer, g .few)
+    -- and one at least is written where the run isn't the last
+    pub round-wrote : length name ≤ 50 → (stop ≡ 0 → ⊥) → 1 ≤ items
+    round-wrote named n =
+        let w = run-writes s name f st rs ps (omega (arith, g .lent .records)) (omega (arith, g .short, g .lent .payload)) named (l .taken) (λ q. n (l .reason ∙ q)) in
+        omega (arith, w, l .all-items)
 
-  pub going-on : {rs′ : List ℕ} {ps′ : Bytes} → length rs′ ≡ length rs → length ps′ ≡ length ps → length out′ ≡ length out
-      → Going s rs₀ ps₀ out₀ rs′ ps′ out′ next (listed + items)
-  going-on p q r = record {
-    short = g .short;
-    lent = record { records = p ∙ g .lent .records; payload = q ∙ g .lent .payload; lines = r ∙ g .lent .lines };
-    records = p ∙ g .records;
-    payload = q ∙ g .payload;
-    lines = r ∙ g .lines;
-    few = omega (arith, round-fewer, g .few);
-  }
+    -- their count is small
+    pub round-few : listed + items ≤ 60001
+    round-few = omega (arith, round-fewer, g .few)
+
+    -- it isn't refused here, and so it wasn't
+    not-refused : refusal s name f st₀ .0 ≡ 0
+    not-refused = sym (g .refuses) ∙ run-taken s name f st rs ps (l .taken)
+
+    -- all items are counted
+    round-counts : (listed + items) + length (steps-of s name f next) ≡ length (steps-of s name f st₀)
+    round-counts =
+        omega (arith, run-counts s name f st rs ps (l .taken), l .all-items, ap (λ (b : State). length (steps-of s name f b)) (l .state), g .count)
+
+    -- the last round ends the listing
+    pub ends-all : stop ≡ 0 → Ends s name f st₀ (All (listed + items))
+    ends-all q =
+        let e = run-ended s name f st rs ps (l .taken) (sym (l .reason) ∙ q) in
+        (not-refused, omega (arith, round-counts, e, ap (λ (b : State). length (steps-of s name f b)) (l .state)))
+
+    pub going-on : {rs′ : List ℕ} {ps′ : Bytes} → length rs′ ≡ length rs → length ps′ ≡ length ps → length out′ ≡ length out
+        → Going s name f st₀ rs₀ ps₀ out₀ rs′ ps′ out′ next (listed + items)
+    going-on p q r = record {
+      lent = record { records = p ∙ g .lent .records; payload = q ∙ g .lent .payload; lines = r ∙ g .lent .lines };
+      records = p ∙ g .records;
+      payload = q ∙ g .payload;
+      lines = r ∙ g .lines;
+      short = g .short;
+      few = omega (arith, round-fewer, g .few);
+      count = round-counts;
+      refuses =
+          ap (λ (b : State). refusal s name f b .0) (l .state)
+          ∙ handed-back-taken s name f st rs ps (run-taken s name f st rs ps (l .taken))
+          ∙ sym not-refused;
+    }

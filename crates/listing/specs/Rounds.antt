@@ -5,10 +5,13 @@ use mathlib.Core.List.{List}
 use lib.ListN.{length}
 use Rattle.definition.specs.Basics.{Bytes}
 use Rattle.definition.specs.State.{started}
-use Rattle.definition.specs.Run.{Outcome}
+use Rattle.definition.specs.Run.{Outcome, refusal}
 use Rattle.definition.specs.declared.State.{State}
 use Rattle.lemmas.specs.Over.{Wrote}
+use Rattle.runs.specs.Items.{steps-of}
 use Rattle.listing.specs.Line.{lines}
+use Rattle.listing.specs.declared.Ending.{Ending}
+use Rattle.listing.specs.declared.Ending.the-variants.{Refusal, All}
 use Rattle.listing.specs.declared.Round.{Round}
 use Rattle.listing.specs.declared.Round.the-variants.{Refused, Lines}
 
@@ -41,3 +44,8 @@ pub record Lists (o : Outcome) (before : Bytes) (bytes items stop : ℕ) (next :
 abbrev pub Rounded : Outcome → Bytes → Round → Bytes → Type 0
 Rounded o before (Refused number) after = Refuses o before number after
 Rounded o before (Lines bytes items stop next) after = Lists o before bytes items stop next after
+
+-- how a listing from st on ends: with the refusal of a run, or with the count of all items
+abbrev pub Ends : Bytes → Bytes → Bytes → State → Ending → Type 0
+Ends s name f st (Refusal number) = (number ≡ refusal s name f st .0) × (number ≡ 0 → ⊥)
+Ends s name f st (All count) = (refusal s name f st .0 ≡ 0) × (count ≡ length (steps-of s name f st))

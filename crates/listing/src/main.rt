@@ -19,7 +19,7 @@ ghost use lib.ListN.{length};
 ghost use Rattle.io.specs.Counts.{Counts};
 ghost use Rattle.definition.specs.Tables.{cps};
 ghost use Rattle.definition.specs.Run.{run};
-ghost use Rattle.listing.specs.Rounds.{Lent, Begun, Rounded};
+ghost use Rattle.listing.specs.Rounds.{Lent, Begun, Rounded, Ends};
 
 // The longest text that is listed.
 const TEXT_LIMIT: usize = 60000;
@@ -91,9 +91,9 @@ fn run_once(
     }
 }
 
-// How the listing ends: refused, or with so many items listed.
+// How the listing ends: with a refusal, or with so many items listed.
 enum Ending {
-    Refused(u32),
+    Refusal(u32),
     All(u64),
 }
 
@@ -109,12 +109,13 @@ fn list_from(
     out: &mut [u8],
 ) -> Ending
     requires { ⌜ Begun (now text) begun × Lent (now records) (now payload) (now out) ⌝ }
+    ensures { λ r. ⌜ Ends (now (text .entry)) (cps "stdin") (now (classes .entry)) begun r ⌝ }
 {
     let mut st = begun;
     let mut listed: u64 = 0;
     loop {
         match run_once(text, classes, st, records, payload, out) {
-            Round::Refused(number) => return Ending::Refused(number),
+            Round::Refused(number) => return Ending::Refusal(number),
             Round::Lines {
                 bytes,
                 items,
@@ -135,7 +136,7 @@ fn list_from(
 // The last line.
 fn say_ending(ending: Ending) {
     match ending {
-        Ending::Refused(number) => say(b"REFUSED ", number as u64),
+        Ending::Refusal(number) => say(b"REFUSED ", number as u64),
         Ending::All(items) => say(b"END ", items),
     }
 }
