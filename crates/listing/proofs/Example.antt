@@ -1,7 +1,7 @@
 -- Document 01's example: the checker computes the definition's items of its text, and the line of each. Rests on nothing but the
 -- definitions.
 use mathlib.Core.Path.{_≡_, refl}
-use mathlib.Core.List.{List, [], _∷_, _++_, map}
+use mathlib.Core.List.{List, [], _∷_, map}
 use lib.ListN.{take}
 use Rattle.definition.specs.Basics.{Bytes, loop}
 use Rattle.definition.specs.Utf8.{encode, encode-all}

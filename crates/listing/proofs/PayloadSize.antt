@@ -4,12 +4,12 @@ use Prim.Native.Nat.{ℕ, _+_, _-_, _*_, _≤_, _<_}
 use Prim.Native.String.{String}
 use mathlib.Core.Path.{_≡_, refl}
 use mathlib.Core.Bool.{Bool, true, false, not, _&&_}
-use mathlib.Core.List.{List, [], _∷_, _++_}
+use mathlib.Core.List.{List, [], _++_}
 use mathlib.Core.Option.{Option, none, some}
 use native.Mathlib.Omega.{arith}
 use lib.Dec.{eqb}
 use lib.ListN.{length, length-append}
-use borrow.Author.Tests.{eqb-true, eqb-false}
+use borrow.Author.Tests.{eqb-false}
 use Rattle.definition.specs.Basics.{Bytes, Turn, again, done, fuel, ch}
 use Rattle.definition.specs.Utf8.{encode, encode-all}
 use Rattle.definition.specs.Text.{byte-is, lexeme, star}
@@ -21,12 +21,12 @@ use Rattle.definition.specs.Matchers.{only, match-lit, match-newline, match-esc
 use Rattle.definition.specs.Select.{select}
 use Rattle.definition.specs.Numbers.{clean-number, int-of-string, show}
 use Rattle.definition.specs.Escapes.{unescape, is-surrogate}
-use Rattle.definition.specs.State.{advance, new-line, deeper, open-comment}
+use Rattle.definition.specs.State.{advance, new-line, open-comment}
 use Rattle.definition.specs.Item.{Step, lex-error}
-use Rattle.definition.specs.Comment.{run-end, after, comment-stop, terminate, comment-turn, comment, line-comment}
+use Rattle.definition.specs.Comment.{run-end, comment-stop, terminate, comment-turn, comment, line-comment}
 use Rattle.definition.specs.Strings.{string-stop, escape-turn, string-turn, string-lit}
 use Rattle.definition.specs.Blob.{Header, unterminated, blob-stop, blob-turn, blob, lang-turn, use-lang}
-use Rattle.definition.specs.Token.{entry, reserved-prefix, starts-with, finish, finish-entry, finish-word, header, ident, uint8, bad-number, op, Rule, act, token-turn, next-token, step}
+use Rattle.definition.specs.Token.{reserved-prefix, starts-with, finish, finish-entry, finish-word, header, ident, uint8, op, Rule, act, token-turn, next-token, step}
 use Rattle.definition.specs.declared.Pos.{Pos}
 use Rattle.definition.specs.declared.Choice.{Choice}
 use Rattle.definition.specs.declared.State.{State}
@@ -37,7 +37,6 @@ use Rattle.state.specs.Sound.{Stands}
 use Rattle.progress.proofs.Walks.{Walk, Onward, onward-walk, walk-forward, walk-within, star-walks}
 use Rattle.progress.proofs.Ends.{Ends, ends-only}
 use Rattle.progress.proofs.Matches.{behind, byte-is-onward, newline-ends, escape-ends}
-use Rattle.progress.proofs.Words.{word-onward}
 use Rattle.progress.proofs.Comments.{after-walks, two-onward}
 use Rattle.progress.proofs.Cuts.{no-comment-walks, no-comment-onward}
 use Rattle.progress.proofs.Choices.{Chosen, Fits, select-fits}

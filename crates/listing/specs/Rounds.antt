@@ -1,15 +1,16 @@
 -- What the listing's runs are lent, where they begin, and what a round of the listing, one run, promises.
 use Prim.Native.Nat.{ℕ, _≤_}
 use mathlib.Core.Path.{_≡_}
-use mathlib.Core.List.{List}
+use mathlib.Core.List.{List, [], _∷_, _++_}
 use lib.ListN.{length}
 use Rattle.definition.specs.Basics.{Bytes}
 use Rattle.definition.specs.State.{started}
+use Rattle.definition.specs.Item.{Step, words}
 use Rattle.definition.specs.Run.{Outcome, refusal}
 use Rattle.definition.specs.declared.State.{State}
 use Rattle.lemmas.specs.Over.{Wrote}
 use Rattle.runs.specs.Items.{steps-of}
-use Rattle.listing.specs.Line.{lines}
+use Rattle.listing.specs.Line.{line, lines}
 use Rattle.listing.specs.declared.Ending.{Ending}
 use Rattle.listing.specs.declared.Ending.the-variants.{Refusal, All}
 use Rattle.listing.specs.declared.Round.{Round}
@@ -44,6 +45,15 @@ pub record Lists (o : Outcome) (before : Bytes) (bytes items stop : ℕ) (next :
 abbrev pub Rounded : Outcome → Bytes → Round → Bytes → Type 0
 Rounded o before (Refused number) after = Refuses o before number after
 Rounded o before (Lines bytes items stop next) after = Lists o before bytes items stop next after
+
+-- the lines of items; word 6, which no line shows, is 0 here
+unfoldable pub lines-of : List Step → Bytes
+lines-of [] = []
+lines-of (t ∷ ts) = line (words (t .item) 0) ++ lines-of ts
+
+-- the lines of all items of a text from st on
+abbrev pub listing : Bytes → Bytes → Bytes → State → Bytes
+listing s name f st = lines-of (steps-of s name f st)
 
 -- how a listing from st on ends: with the refusal of a run, or with the count of all items
 abbrev pub Ends : Bytes → Bytes → Bytes → State → Ending → Type 0

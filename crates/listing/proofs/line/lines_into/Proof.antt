@@ -1,10 +1,8 @@
 -- The invariant is `Lined`: the lines of the first k records are written. The measure is how many records are left.
-use Prim.Native.Nat.{_-_, _*_, _+_, _≤_}
-use mathlib.Core.Path.{_≡_, subst}
+use Prim.Native.Nat.{_-_, _≤_}
+use mathlib.Core.Path.{_≡_}
 use native.Mathlib.Omega.{arith}
-use lib.ListN.{length, length-take, length-drop}
-use Rattle.listing.specs.Line.{lines}
-use Rattle.lemmas.specs.Over.{Wrote}
+use lib.ListN.{length-take, length-drop}
 use Rattle.listing.proofs.LineLaws.{tail-size, Lined, lined-starts, lined-length, lined-on, record-at}
 use borrow.Author.Needs.{needs}
 use Rattle.listing.proofs.line.lines_into.Statement.{statement}
