@@ -1,0 +1,61 @@
+-- What the listing's runs are lent, where they begin, and what a round of the listing, one run, promises.
+use Prim.Native.Nat.{ℕ, _≤_}
+use mathlib.Core.Path.{_≡_}
+use mathlib.Core.List.{List, [], _∷_, _++_}
+use lib.ListN.{length}
+use Rattle.definition.specs.Basics.{Bytes}
+use Rattle.definition.specs.State.{started}
+use Rattle.definition.specs.Item.{Step, words}
+use Rattle.definition.specs.Run.{Outcome, refusal}
+use Rattle.definition.specs.declared.State.{State}
+use Rattle.lemmas.specs.Over.{Wrote}
+use Rattle.runs.specs.Items.{steps-of}
+use Rattle.listing.specs.Line.{line, lines}
+use Rattle.listing.specs.declared.Ending.{Ending}
+use Rattle.listing.specs.declared.Ending.the-variants.{Refusal, All}
+use Rattle.listing.specs.declared.Round.{Round}
+use Rattle.listing.specs.declared.Round.the-variants.{Refused, Lines}
+
+-- a text that is listed, and its start
+pub record Begun (s : Bytes) (st : State) : Type 0 where
+  pub short : length s ≤ 60000
+  pub is : st ≡ started 1 0
+
+-- records for 1,024 items, a payload that has room for any of a listed text, and room for the items' lines
+pub record Lent (rs : List ℕ) (ps out : Bytes) : Type 0 where
+  pub records : length rs ≡ 16384
+  pub payload : length ps ≡ 262144
+  pub lines : length out ≡ 108544
+
+-- a run with the outcome o was refused with this number, and the buffer is as it was
+pub record Refuses (o : Outcome) (before : Bytes) (number : ℕ) (after : Bytes) : Type 0 where
+  pub refusal : o .0 .refusal ≡ number
+  pub some : number ≡ 0 → ⊥
+  pub same : after ≡ before
+
+-- the lines of the items of a run with the outcome o, and nothing else, were written to the buffer
+pub record Lists (o : Outcome) (before : Bytes) (bytes items stop : ℕ) (next : State) (after : Bytes) : Type 0 where
+  pub taken : o .0 .refusal ≡ 0
+  pub all-items : items ≡ o .0 .count
+  pub reason : stop ≡ o .0 .stop
+  pub state : next ≡ o .0 .state
+  pub written : Wrote (lines (o .0 .count) (o .1)) before after bytes
+
+-- what a round answers, and leaves in the buffer
+abbrev pub Rounded : Outcome → Bytes → Round → Bytes → Type 0
+Rounded o before (Refused number) after = Refuses o before number after
+Rounded o before (Lines bytes items stop next) after = Lists o before bytes items stop next after
+
+-- the lines of items; word 6, which no line shows, is 0 here
+unfoldable pub lines-of : List Step → Bytes
+lines-of [] = []
+lines-of (t ∷ ts) = line (words (t .item) 0) ++ lines-of ts
+
+-- the lines of all items of a text from st on
+abbrev pub listing : Bytes → Bytes → Bytes → State → Bytes
+listing s name f st = lines-of (steps-of s name f st)
+
+-- how a listing from st on ends: with the refusal of a run, or with the count of all items
+abbrev pub Ends : Bytes → Bytes → Bytes → State → Ending → Type 0
+Ends s name f st (Refusal number) = (number ≡ refusal s name f st .0) × (number ≡ 0 → ⊥)
+Ends s name f st (All count) = (refusal s name f st .0 ≡ 0) × (count ≡ length (steps-of s name f st))

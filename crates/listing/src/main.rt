@@ -1,0 +1,179 @@
+// Document 01's listing program: a line for each item of standard input, and then END and the count of items; or REFUSED and
+// the number of what refuses the text. The class file is classes.bin in the working directory; a missing one counts as a
+// file of no bytes, which the class check refuses with 3. The name is `stdin`, the start 1:0.
+//
+// Proved: it ends; each run is the definition's (crate `lexer`), and what is handed over to be written for it are the
+// definition's lines of its records, so that in all it is a line for each item (proofs/Whole.antt); the number behind END is
+// the count of all items, and REFUSED comes only where the first run is refused. What it writes for document 01's text is
+// compared with the file stdout. Assumed: what `libc` and `os` declare of reading and writing; a read that fails counts as
+// the end of what is read.
+mod kind_names;
+mod line;
+
+use definition::State;
+use lexer::run;
+use libc::STDIN_FILENO;
+use libc::STDOUT_FILENO;
+use line::lines_into;
+use state::start;
+ghost use mathlib.Core.Path.{_≡_};
+ghost use lib.ListN.{length};
+ghost use Rattle.io.specs.Counts.{Counts};
+ghost use Rattle.definition.specs.Tables.{cps};
+ghost use Rattle.definition.specs.Run.{run};
+ghost use Rattle.listing.specs.Rounds.{Lent, Begun, Rounded, Ends};
+
+// The longest text that is listed.
+const TEXT_LIMIT: usize = 60000;
+
+// Space for the records of 1,024 items.
+fn record_buffer() -> [u32; 16384]
+    ensures { λ r. ⌜ 16384 ≡ length r ⌝ }
+{
+    [0; 16384]
+}
+
+// Space for their lines, of which none has more than 106 bytes.
+fn line_buffer() -> [u8; 108544]
+    ensures { λ r. ⌜ 108544 ≡ length r ⌝ }
+{
+    [0; 108544]
+}
+
+// Space for payloads. Any payload of a listed text fits: none has more than four bytes for each byte of the text and a hundred
+// (an unclosed comment has two bytes more than the text has of it, `__FILELINE__` the name and the line).
+fn payload_buffer() -> [u8; 262144]
+    ensures { λ r. ⌜ 262144 ≡ length r ⌝ }
+{
+    [0; 262144]
+}
+
+// A line of a word and a number.
+fn say(word: &[u8], number: u64) {
+    io::write_all(STDOUT_FILENO, word);
+    io::print_decimal(STDOUT_FILENO, number);
+    io::write_all(STDOUT_FILENO, b"\n");
+}
+
+// What one run gave: it was refused, or its items are lines at the front of the buffer, with why it stopped and the state to
+// run on from.
+enum Round {
+    Refused(u32),
+    Lines {
+        bytes: usize,
+        items: u32,
+        stop: u32,
+        next: State,
+    },
+}
+
+// Runs once, and makes lines of the items.
+fn run_once(
+    text: &[u8],
+    classes: &[u8],
+    st: State,
+    records: &mut [u32],
+    payload: &mut [u8],
+    out: &mut [u8],
+) -> Round
+    requires { ⌜ Lent (now records) (now payload) (now out) ⌝ }
+    ensures { λ r. ⌜ Rounded (run (now (text .entry)) (cps "stdin") (now (classes .entry)) st (now (records .entry)) (now (payload .entry))) (now (out .entry)) r (now (out .exit)) ⌝ }
+{
+    let answer = run(text, b"stdin", classes, st, records, payload);
+    if answer.refusal != 0 {
+        return Round::Refused(answer.refusal);
+    }
+    let bytes = lines_into(records, answer.count as usize, out);
+    let next = answer.state;
+    Round::Lines {
+        bytes: bytes,
+        items: answer.count,
+        stop: answer.stop,
+        next: next,
+    }
+}
+
+// How the listing ends: with a refusal, or with so many items listed.
+enum Ending {
+    Refusal(u32),
+    All(u64),
+}
+
+// Runs on from a state until the end, and writes the lines of each run at once. Only the first run can be refused, since the
+// state that a run hands back is sound. Each run but the last writes an item, since both buffers are free again and have
+// room for any one item: so what is left to read falls with each run.
+fn list_from(
+    text: &[u8],
+    classes: &[u8],
+    begun: State,
+    records: &mut [u32],
+    payload: &mut [u8],
+    out: &mut [u8],
+) -> Ending
+    requires { ⌜ Begun (now text) begun × Lent (now records) (now payload) (now out) ⌝ }
+    ensures { λ r. ⌜ Ends (now (text .entry)) (cps "stdin") (now (classes .entry)) begun r ⌝ }
+{
+    let mut st = begun;
+    let mut listed: u64 = 0;
+    loop {
+        match run_once(text, classes, st, records, payload, out) {
+            Round::Refused(number) => return Ending::Refusal(number),
+            Round::Lines {
+                bytes,
+                items,
+                stop,
+                next,
+            } => {
+                io::write_all(STDOUT_FILENO, &out[..bytes]);
+                listed += items as u64;
+                if stop == 0 {
+                    return Ending::All(listed);
+                }
+                st = next;
+            }
+        }
+    }
+}
+
+// The last line.
+fn say_ending(ending: Ending) {
+    match ending {
+        Ending::Refusal(number) => say(b"REFUSED ", number as u64),
+        Ending::All(items) => say(b"END ", items),
+    }
+}
+
+// The lines of a text under a class file.
+fn list(text: &[u8], classes: &[u8]) {
+    if TEXT_LIMIT < text.len() {
+        say(b"REFUSED ", 6);
+        return;
+    }
+    let begun = start(1, 0);
+    let mut records = record_buffer();
+    let mut payload = payload_buffer();
+    let mut out = line_buffer();
+    let st = begun.state;
+    say_ending(list_from(text, classes, st, &mut records, &mut payload, &mut out));
+}
+
+// Reads classes.bin, one byte more than a class file may have, and answers how many bytes came.
+fn read_classes(file: &mut [u8]) -> usize
+    ensures { λ r. ⌜ Counts r (now (file .exit)) ⌝ }
+{
+    let fd = os::open_read(b"classes.bin");
+    if fd < 0 {
+        return 0;
+    }
+    let n = io::read_full(fd, file);
+    libc::close(fd);
+    n
+}
+
+fn main() {
+    let mut text = io::large_buffer();
+    let mut file = [0u8; 65537];
+    let length = io::read_full(STDIN_FILENO, &mut text);
+    let size = read_classes(&mut file);
+    list(&text[..length], &file[..size]);
+}
