@@ -34,6 +34,8 @@ use Rattle.described.proofs.Standing.{known-asked, known-kept}
 use Rattle.described.proofs.Turning.{turned-done, turned-again}
 use Rattle.comments.specs.Contracts.{ReadsAny}
 use Rattle.steps.specs.Ready.{eof, ReadsEach, Ready}
+use Rattle.steps.specs.White.{Between, Passes, Behind}
+use Rattle.steps.specs.declared.white.Passed.the-variants.{On}
 
 -- ---- the text's end
 
@@ -89,6 +91,24 @@ turn-leads s name f st h m =
     (token-turn s name f st) (token-turn-stands s name f st h m)
     (leads-map (λ b l. l .1) (λ t _. tt) (token-turn s name f st) (token-falls s name f .at st tt))
 
+-- a turn that goes on stands where it does, with less of the text before it, and reads the same from there
+pub record Goes (s name f : Bytes) (st : State) (p : Place) : Type 0 where
+  pub standing : Standing s (p .st) (p .known)
+  pub between : p .st .mode ≡ 0
+  pub same : next-token s name f (p .st) ≡ next-token s name f st
+  pub less : length s - p .st .offset < length s - st .offset
+
+pub turn-goes : (s name f : Bytes) (st : State) (p : Place) → Stands s st → st .mode ≡ 0 → Turns s name f (token-turn s name f st) (Again p) → Goes s name f st p
+turn-goes s name f st p h m t =
+    let g = turned-again s name f (λ b. (Stands s b × (b .mode ≡ 0)) × (rest s (b .offset) < rest s (st .offset))) Any
+    (token-turn s name f st) (next-token s name f) p (turn-leads s name f st h m) t in
+    record {
+      standing = record { stands = g .holds .0 .0; cached = g .known };
+      between = g .holds .0 .1;
+      same = sym (g .same) ∙ sym (token-unroll s name f st);
+      less = g .holds .1;
+    }
+
 module _ {s name f : Bytes} {ops symbols : List Bool} {first here : Place} (k : Reading s name f ops symbols first here) where
   -- what a turn has read is the whole
   pub reading-ends : (r : Read) → Turns s name f (token-turn s name f (here .st)) (Done r) → Reads s name f (next-token s name f (first .st)) r
@@ -100,18 +120,41 @@ module _ {s name f : Bytes} {ops symbols : List Bool} {first here : Place} (k : 
   pub reading-goes-on : (p : Place) → Turns s name f (token-turn s name f (here .st)) (Again p)
       → Reading s name f ops symbols first p × (length s - p .st .offset < length s - here .st .offset)
   reading-goes-on p t =
-      let g = turned-again s name f (λ b. (Stands s b × (b .mode ≡ 0)) × (rest s (b .offset) < rest s (here .st .offset))) Any
-      (token-turn s name f (here .st)) (next-token s name f) p
-      (turn-leads s name f (here .st) (k .ready .standing .stands) (k .ready .between)) t in
-      let less : rest s (p .st .offset) < rest s (here .st .offset) = g .holds .1 in (
+      let g = turn-goes s name f (here .st) p (k .ready .standing .stands) (k .ready .between) t in (
         record {
-          ready = record {
-            standing = record { stands = g .holds .0 .0; cached = g .known };
-            between = g .holds .0 .1;
-            lent = k .ready .lent;
-            named = k .ready .named;
-          };
-          same = sym (g .same) ∙ sym (token-unroll s name f (here .st)) ∙ k .same;
+          ready = record { standing = g .standing; between = g .between; lent = k .ready .lent; named = k .ready .named };
+          same = g .same ∙ k .same;
         },
-        less,
+        g .less,
       )
+
+-- ---- white space before a turn
+
+-- between comments, with the class file that is lent
+pub reading-between : {s name f : Bytes} {ops symbols : List Bool} {first here : Place} → Reading s name f ops symbols first here → Between s f here
+reading-between k = record { standing = k .ready .standing; between = k .ready .between; accepted = k .ready .lent .classes }
+
+-- the reader that stands behind it stands ready
+pub reading-behind : {s name f : Bytes} {ops symbols : List Bool} {first from here : Place}
+    → Reading s name f ops symbols first from → Behind s f from here → Reading s name f ops symbols first here
+reading-behind {name = name} k b = record {
+  ready = record { standing = b .ready .standing; between = b .ready .between; lent = k .ready .lent; named = k .ready .named };
+  same = b .same name ∙ k .same;
+}
+
+pub behind-starts : {s f : Bytes} {at : Place} → Between s f at → Behind s f at at
+behind-starts h = record { ready = h; same = λ name. refl; less = omega arith }
+
+-- what is passed leads on behind it
+pub behind-on : {s f : Bytes} {first here next : Place} → Behind s f first here → Passes s f (here .st) (On next)
+    → Behind s f first next × (length s - next .st .offset < length s - here .st .offset)
+behind-on {s} {f} {first} {here} {next} b p =
+    let goes : (name : Bytes) → Goes s name f (here .st) next = λ name. turn-goes s name f (here .st) next (b .ready .standing .stands) (b .ready .between) (p name) in
+    let g = goes [] in (
+      record {
+        ready = record { standing = g .standing; between = g .between; accepted = b .ready .accepted };
+        same = λ name. goes name .same ∙ b .same name;
+        less = omega (arith, g .less, b .less);
+      },
+      g .less,
+    )

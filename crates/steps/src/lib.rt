@@ -4,6 +4,9 @@
 // state, and a column that is known behind it.
 // Assumed: nothing but what each function's `requires` says: a reader stands in a sound state of a legal text and hasn't
 // ended, the class file is accepted, the tables of operator and of symbol characters are lent, and the name is short enough.
+pub mod white; // white.rt: white space and line ends before a turn
+
+use crate::white::behind_white;
 use comments::pieces::comment;
 use definition::Extra;
 use described::Payload;
@@ -76,14 +79,15 @@ pub fn next_token(
     requires { ⌜ Ready (now text) (now name) (now classes) (now ops) (now symbols) at ⌝ }
     ensures { λ r. ⌜ Reads (now (text .entry)) (now (name .entry)) (now (classes .entry)) (next-token (now (text .entry)) (now (name .entry)) (now (classes .entry)) (at .st)) r ⌝ }
 {
-    let mut here = at;
+    let mut from = at;
     loop {
+        let here = behind_white(text, classes, from);
         match token_turn(text, name, classes, ops, symbols, here) {
             Turned::Done(r) => {
                 return r;
             }
             Turned::Again(next) => {
-                here = next;
+                from = next;
             }
         }
     }
