@@ -1,21 +1,19 @@
 -- A lexeme against a word, and the places of words. Rests on the laws of a prefix.
-use Prim.Native.Nat.{ℕ, zero, suc, _+_, _*_, _-_, _≤_, _<_}
+use Prim.Native.Nat.{ℕ, zero, suc, _+_, _-_, _≤_, _<_}
 use mathlib.Core.Path.{_≡_, refl, sym, ap, _∙_}
 use mathlib.Core.Bool.{Bool, true, false, _&&_}
-use mathlib.Core.List.{List, [], _∷_, _++_, append-assoc, map}
-use native.Mathlib.Nat.{not-suc-le-zero}
+use mathlib.Core.List.{List, [], _∷_}
 use native.Mathlib.Omega.{arith}
 use lib.Dec.{eqb, leb}
-use lib.ListN.{length, getD, take, replicate, length-append, length-replicate, List·getD-append}
-use lib.Seq.{take-all, getD-append-add}
+use lib.ListN.{length, getD, take}
+use lib.Seq.{take-all}
 use borrow.Author.Tests.{eq-eqb, ne-eqb, eqb-true, eqb-false, leb-true}
 use Rattle.definition.specs.Basics.{Bytes, same}
 use Rattle.definition.specs.Token.{starts-with}
 use Rattle.lemmas.proofs.Cases.{by-outcome, both}
 use Rattle.lemmas.proofs.Members.{Rest}
-use Rattle.lookups.specs.Places.{key, words}
+use Rattle.lookups.specs.Places.{key}
 use Rattle.lookups.proofs.Chains.{same-equal}
-use Rattle.lookups.proofs.Prefix.{Agrees}
 
 -- every number is at most b
 abbrev all-up-to : ℕ → List ℕ → Bool

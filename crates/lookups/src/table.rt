@@ -1,6 +1,9 @@
 // The words of the source's tables `keywords`, `constructors` and `uoperators`, one table behind the other and each in its
 // order. A word is found by its key, from its first byte, its last byte and its length: of the words of a table with the
-// same key, at most four, each is compared.
+// same key, at most four, each is compared. A table is built anew in each function that reads it, so the words stand in the
+// arms of a `match`, where a word is only compared with; the places are small tables of bytes. Ten arms to a function, since
+// the time to check a `match` grows much faster than its arms. Proved: a look-up gives the place at which the definition's
+// table has the lexeme, or says that it has it nowhere. Assumed: nothing but what each function's `requires` says.
 use crate::Word;
 ghost use mathlib.Core.Path.{_≡_};
 ghost use Prim.Native.Nat.{_≤_, _<_};
@@ -10,7 +13,7 @@ ghost use Rattle.definition.specs.Basics.{same};
 ghost use Rattle.definition.specs.Tables.{keywords, constructors, uoperators};
 ghost use Rattle.lookups.specs.Places.{key, words, spelled, place, Chain, seek};
 
-// Behind each word, the next one with the same key; past the last word where there is none.
+// Behind each word, the next one with the same key; past the last word where there is none. Sixteen places to a row.
 const NEXT: [u8; 119] = *b"\
     \x1f\x32\x4e\x08\x0d\x19\x38\x4a\x2c\x2d\x0e\x77\x54\x4b\x3b\x16\
     \x5d\x12\x77\x24\x1d\x77\x2b\x4d\x1e\x51\x20\x22\x23\x28\x52\x3f\
@@ -49,7 +52,7 @@ fn key(id: &[u8]) -> usize
     (first + last + id.len() % 64) % 64
 }
 
-// Whether a lexeme is a word.
+// Whether a lexeme is this word.
 fn spells(id: &[u8], word: &[u8]) -> bool
     ensures { λ r. ⌜ r ≡ same (now (word .entry)) (now (id .entry)) ⌝ }
 {
@@ -66,7 +69,7 @@ fn spells(id: &[u8], word: &[u8]) -> bool
     true
 }
 
-// Whether word k, one of ten, is the lexeme.
+// Whether word k, of the words 0 to 9, is the lexeme.
 fn from_0(id: &[u8], k: usize) -> bool
     requires { ⌜ k < 10 ⌝ }
     ensures { λ r. ⌜ r ≡ same (getD words k []) (now (id .entry)) ⌝ }
@@ -86,6 +89,7 @@ fn from_0(id: &[u8], k: usize) -> bool
     }
 }
 
+// Whether word k, of the words 10 to 19, is the lexeme.
 fn from_10(id: &[u8], k: usize) -> bool
     requires { ⌜ (10 ≤ k) × (k < 20) ⌝ }
     ensures { λ r. ⌜ r ≡ same (getD words k []) (now (id .entry)) ⌝ }
@@ -105,6 +109,7 @@ fn from_10(id: &[u8], k: usize) -> bool
     }
 }
 
+// Whether word k, of the words 20 to 29, is the lexeme.
 fn from_20(id: &[u8], k: usize) -> bool
     requires { ⌜ (20 ≤ k) × (k < 30) ⌝ }
     ensures { λ r. ⌜ r ≡ same (getD words k []) (now (id .entry)) ⌝ }
@@ -124,6 +129,7 @@ fn from_20(id: &[u8], k: usize) -> bool
     }
 }
 
+// Whether word k, of the words 30 to 39, is the lexeme.
 fn from_30(id: &[u8], k: usize) -> bool
     requires { ⌜ (30 ≤ k) × (k < 40) ⌝ }
     ensures { λ r. ⌜ r ≡ same (getD words k []) (now (id .entry)) ⌝ }
@@ -143,6 +149,7 @@ fn from_30(id: &[u8], k: usize) -> bool
     }
 }
 
+// Whether word k, of the words 40 to 49, is the lexeme.
 fn from_40(id: &[u8], k: usize) -> bool
     requires { ⌜ (40 ≤ k) × (k < 50) ⌝ }
     ensures { λ r. ⌜ r ≡ same (getD words k []) (now (id .entry)) ⌝ }
@@ -162,6 +169,7 @@ fn from_40(id: &[u8], k: usize) -> bool
     }
 }
 
+// Whether word k, of the words 50 to 59, is the lexeme.
 fn from_50(id: &[u8], k: usize) -> bool
     requires { ⌜ (50 ≤ k) × (k < 60) ⌝ }
     ensures { λ r. ⌜ r ≡ same (getD words k []) (now (id .entry)) ⌝ }
@@ -181,6 +189,7 @@ fn from_50(id: &[u8], k: usize) -> bool
     }
 }
 
+// Whether word k, of the words 60 to 69, is the lexeme.
 fn from_60(id: &[u8], k: usize) -> bool
     requires { ⌜ (60 ≤ k) × (k < 70) ⌝ }
     ensures { λ r. ⌜ r ≡ same (getD words k []) (now (id .entry)) ⌝ }
@@ -200,6 +209,7 @@ fn from_60(id: &[u8], k: usize) -> bool
     }
 }
 
+// Whether word k, of the words 70 to 79, is the lexeme.
 fn from_70(id: &[u8], k: usize) -> bool
     requires { ⌜ (70 ≤ k) × (k < 80) ⌝ }
     ensures { λ r. ⌜ r ≡ same (getD words k []) (now (id .entry)) ⌝ }
@@ -219,6 +229,7 @@ fn from_70(id: &[u8], k: usize) -> bool
     }
 }
 
+// Whether word k, of the words 80 to 89, is the lexeme.
 fn from_80(id: &[u8], k: usize) -> bool
     requires { ⌜ (80 ≤ k) × (k < 90) ⌝ }
     ensures { λ r. ⌜ r ≡ same (getD words k []) (now (id .entry)) ⌝ }
@@ -238,6 +249,7 @@ fn from_80(id: &[u8], k: usize) -> bool
     }
 }
 
+// Whether word k, of the words 90 to 99, is the lexeme.
 fn from_90(id: &[u8], k: usize) -> bool
     requires { ⌜ (90 ≤ k) × (k < 100) ⌝ }
     ensures { λ r. ⌜ r ≡ same (getD words k []) (now (id .entry)) ⌝ }
@@ -257,6 +269,7 @@ fn from_90(id: &[u8], k: usize) -> bool
     }
 }
 
+// Whether word k, of the words 100 to 109, is the lexeme.
 fn from_100(id: &[u8], k: usize) -> bool
     requires { ⌜ (100 ≤ k) × (k < 110) ⌝ }
     ensures { λ r. ⌜ r ≡ same (getD words k []) (now (id .entry)) ⌝ }
@@ -276,6 +289,7 @@ fn from_100(id: &[u8], k: usize) -> bool
     }
 }
 
+// Whether word k, of the words 110 to 118, is the lexeme.
 fn from_110(id: &[u8], k: usize) -> bool
     requires { ⌜ (110 ≤ k) × (k < 119) ⌝ }
     ensures { λ r. ⌜ r ≡ same (getD words k []) (now (id .entry)) ⌝ }
@@ -294,7 +308,7 @@ fn from_110(id: &[u8], k: usize) -> bool
     }
 }
 
-// Whether a word of the tables is the one looked for.
+// Whether word k is the lexeme.
 fn is_word(id: &[u8], k: usize) -> bool
     requires { ⌜ k < 119 ⌝ }
     ensures { λ r. ⌜ r ≡ same (getD words k []) (now (id .entry)) ⌝ }
