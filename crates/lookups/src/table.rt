@@ -1,9 +1,10 @@
 // The words of the source's tables `keywords`, `constructors` and `uoperators`, one table behind the other and each in its
-// order. A word is found by its key, from its first byte, its last byte and its length: of the words of a table with the
-// same key, at most four, each is compared. A table is built anew in each function that reads it, so the words stand in the
-// arms of a `match`, where a word is only compared with; the places are small tables of bytes. Ten arms to a function, since
-// the time to check a `match` grows much faster than its arms. Proved: a look-up gives the place at which the definition's
-// table has the lexeme, or says that it has it nowhere. Assumed: nothing but what each function's `requires` says.
+// order. A keyword or operator is found by its key, from its first byte, its last byte and its length: of the words of a
+// table with the same key, at most four, each is compared. The three constructors are compared one by one. A table is built
+// anew in each function that reads it, so the words stand in the arms of a `match`, where nothing is built but the word; the
+// places are small tables of bytes. Ten arms to a function, since the time to check a `match` grows much faster than its
+// arms. Proved: a look-up gives the place at which the definition's table has the lexeme, or says that it has it nowhere.
+// Assumed: nothing but what each function's `requires` says.
 use crate::Word;
 ghost use mathlib.Core.Path.{_≡_};
 ghost use Prim.Native.Nat.{_≤_, _<_};
