@@ -1,31 +1,23 @@
--- Texts one behind the other: what stands behind a text's start is the text. Rests on the laws of lists.
+-- Texts one behind the other: what stands behind a text's start is the text; and rules that hold of every number of a range. Rests on
+-- the laws of lists.
 use Prim.Native.Nat.{ℕ, zero, suc, _+_, _≤_, _<_}
 use mathlib.Core.Path.{_≡_, refl, sym, ap, _∙_}
 use mathlib.Core.Bool.{Bool, true, _&&_}
-use mathlib.Core.List.{List, [], _∷_, _++_, append-assoc, map}
+use mathlib.Core.List.{List, [], _∷_, _++_, append-assoc}
 use native.Mathlib.Nat.{not-suc-le-zero}
 use native.Mathlib.Omega.{arith}
 use lib.ListN.{length, getD, length-append, List·getD-append}
-use lib.Dec.{leb}
+use lib.Dec.{eqb, leb}
 use lib.Seq.{getD-append-add}
-use borrow.Author.Tests.{leb-true}
+use borrow.Author.Tests.{leb-true, eqb-true, eqb-false}
 use Rattle.definition.specs.Basics.{Bytes}
-use Rattle.lemmas.proofs.Cases.{both}
+use Rattle.lemmas.proofs.Cases.{by-outcome, both}
+use Rattle.entries.specs.Entries.{starts}
 
--- the length at k is that of text k
-pub length-at : (ts : List Bytes) (k : ℕ) → getD (map length ts) k 0 ≡ length (getD ts k [])
-length-at [] k = refl
-length-at (t ∷ ts) zero = refl
-length-at (t ∷ ts) (suc k) = length-at ts k
-
--- all texts, and where each begins if the first begins at n
+-- all texts
 abbrev pub joined : List Bytes → Bytes
 joined [] = []
 joined (t ∷ ts) = t ++ joined ts
-
-abbrev pub starts : ℕ → List Bytes → List ℕ
-starts n [] = []
-starts n (t ∷ ts) = n ∷ starts (n + length t) ts
 
 -- a text ends within all of them
 pub text-within : (ts : List Bytes) (n k j : ℕ) → j < length (getD ts k []) → getD (starts n ts) k 0 + j < n + length (joined ts)
@@ -52,3 +44,18 @@ pub short-at : (ts : List Bytes) → all-short ts ≡ true → (k : ℕ) → len
 short-at [] e k = omega arith
 short-at (t ∷ ts) e zero = leb-true (length t) 7 (both (leb (length t) 7) (all-short ts) e .0)
 short-at (t ∷ ts) e (suc k) = short-at ts (both (leb (length t) 7) (all-short ts) e .1) k
+
+-- ---- rules of a range, by a computed test
+
+-- two functions give the same of each of the n numbers from a on
+abbrev same-from : (ℕ → ℕ) → (ℕ → ℕ) → ℕ → ℕ → Bool
+same-from f g a zero = true
+same-from f g a (suc n) = eqb (f a) (g a) && same-from f g (suc a) n
+
+pub each-from : (f g : ℕ → ℕ) (a n : ℕ) → same-from f g a n ≡ true → (k : ℕ) → a ≤ k → k < a + n → f k ≡ g k
+each-from f g a zero t k p q = absurd (omega arith)
+each-from f g a (suc n) t k p q =
+    let b = both (eqb (f a) (g a)) (same-from f g (suc a) n) t in
+    by-outcome (eqb k a)
+    (λ e. let h = eqb-true k a e in rw h (eqb-true (f a) (g a) (b .0)))
+    (λ e. let d = eqb-false k a e in each-from f g (suc a) n (b .1) k (omega arith) (omega arith))

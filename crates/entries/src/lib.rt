@@ -1,7 +1,9 @@
 // The kinds and texts of the tables' entries: `keywords`, `constructors`, `uoperators`, the operator tokens and the mixfix
 // words, one table behind the other and each in its order; behind them the text of the token `<`, which is in no table.
-// Proved: each kind and text is that of the definition's entry; that the constants are the definition's is computed from its
-// tables. Assumed: nothing but what each function's `requires` says.
+// A table is built anew in each function that reads it, so most kinds and lengths are given by a rule for a range of entries,
+// and only what no rule gives is in small tables of bytes. Proved: each kind and text is that of the definition's entry; that
+// the rules and the tables give what the definition's tables do is computed from them. Assumed: nothing but what each
+// function's `requires` says.
 ghost use mathlib.Core.Path.{_≡_};
 ghost use mathlib.Core.List.{[]};
 ghost use Prim.Native.Nat.{_<_, _≤_};
@@ -9,99 +11,10 @@ ghost use lib.ListN.{length, getD};
 ghost use Rattle.definition.specs.Kinds.{kind};
 ghost use Rattle.definition.specs.Token.{entry};
 ghost use Rattle.lemmas.specs.Over.{over};
-ghost use Rattle.entries.specs.Entries.{entries, texts};
+ghost use Rattle.entries.specs.Entries.{entries, texts, starts};
 
-// The kind of each entry.
-const KINDS: [u32; 180] = [
-    1,
-    2,
-    3,
-    4,
-    5,
-    6,
-    7,
-    8,
-    9,
-    10,
-    11,
-    12,
-    13,
-    14,
-    15,
-    16,
-    17,
-    18,
-    19,
-    20,
-    21,
-    21,
-    22,
-    23,
-    24,
-    25,
-    26,
-    27,
-    28,
-    29,
-    30,
-    31,
-    32,
-    33,
-    34,
-    35,
-    36,
-    37,
-    38,
-    39,
-    40,
-    41,
-    42,
-    43,
-    44,
-    45,
-    46,
-    47,
-    48,
-    49,
-    50,
-    51,
-    52,
-    53,
-    54,
-    55,
-    56,
-    57,
-    58,
-    59,
-    60,
-    61,
-    62,
-    63,
-    64,
-    65,
-    65,
-    65,
-    65,
-    65,
-    65,
-    65,
-    65,
-    65,
-    65,
-    65,
-    65,
-    65,
-    65,
-    65,
-    65,
-    65,
-    65,
-    65,
-    65,
-    65,
-    65,
-    65,
-    65,
+// The kinds of the operators in Unicode, entries 89 to 118.
+const UOPERATOR_KINDS: [u8; 30] = [
     20,
     17,
     119,
@@ -132,157 +45,10 @@ const KINDS: [u32; 180] = [
     123,
     123,
     123,
-    66,
-    67,
-    68,
-    69,
-    70,
-    71,
-    72,
-    73,
-    74,
-    75,
-    76,
-    77,
-    78,
-    79,
-    80,
-    81,
-    82,
-    83,
-    84,
-    85,
-    86,
-    87,
-    88,
-    89,
-    90,
-    91,
-    92,
-    93,
-    94,
-    95,
-    96,
-    97,
-    98,
-    99,
-    100,
-    101,
-    102,
-    103,
-    104,
-    105,
-    106,
-    107,
-    108,
-    109,
-    110,
-    111,
-    112,
-    113,
-    114,
-    115,
-    116,
-    117,
-    118,
-    146,
-    146,
-    146,
-    146,
-    147,
-    147,
-    147,
-    147,
 ];
 
-// The length of each text.
-const TEXT_LENGTHS: [usize; 181] = [
-    0,
-    0,
-    0,
-    0,
-    0,
-    0,
-    0,
-    0,
-    0,
-    0,
-    0,
-    0,
-    0,
-    0,
-    0,
-    0,
-    0,
-    0,
-    0,
-    0,
-    0,
-    0,
-    0,
-    0,
-    0,
-    0,
-    0,
-    0,
-    0,
-    0,
-    0,
-    0,
-    0,
-    0,
-    0,
-    0,
-    0,
-    0,
-    0,
-    0,
-    0,
-    0,
-    0,
-    0,
-    0,
-    0,
-    0,
-    0,
-    0,
-    0,
-    0,
-    0,
-    0,
-    0,
-    0,
-    0,
-    0,
-    0,
-    0,
-    0,
-    0,
-    0,
-    0,
-    0,
-    0,
-    2,
-    2,
-    2,
-    2,
-    2,
-    2,
-    2,
-    2,
-    2,
-    2,
-    2,
-    2,
-    2,
-    2,
-    2,
-    2,
-    2,
-    2,
-    2,
-    2,
-    2,
+// The lengths of the texts 86 to 119, and where each begins among the texts.
+const TEXT_LENGTHS: [u8; 34] = [
     3,
     3,
     4,
@@ -317,157 +83,9 @@ const TEXT_LENGTHS: [usize; 181] = [
     3,
     3,
     1,
-    0,
-    0,
-    0,
-    0,
-    0,
-    0,
-    0,
-    0,
-    0,
-    0,
-    0,
-    0,
-    0,
-    0,
-    0,
-    0,
-    0,
-    0,
-    0,
-    0,
-    0,
-    0,
-    0,
-    0,
-    0,
-    0,
-    0,
-    0,
-    0,
-    0,
-    0,
-    0,
-    0,
-    0,
-    0,
-    0,
-    0,
-    0,
-    0,
-    0,
-    0,
-    0,
-    0,
-    0,
-    0,
-    0,
-    0,
-    0,
-    0,
-    0,
-    0,
-    0,
-    0,
-    0,
-    0,
-    0,
-    0,
-    0,
-    0,
-    0,
-    1,
 ];
 
-// Where each text begins among the texts.
-const TEXT_STARTS: [usize; 181] = [
-    0,
-    0,
-    0,
-    0,
-    0,
-    0,
-    0,
-    0,
-    0,
-    0,
-    0,
-    0,
-    0,
-    0,
-    0,
-    0,
-    0,
-    0,
-    0,
-    0,
-    0,
-    0,
-    0,
-    0,
-    0,
-    0,
-    0,
-    0,
-    0,
-    0,
-    0,
-    0,
-    0,
-    0,
-    0,
-    0,
-    0,
-    0,
-    0,
-    0,
-    0,
-    0,
-    0,
-    0,
-    0,
-    0,
-    0,
-    0,
-    0,
-    0,
-    0,
-    0,
-    0,
-    0,
-    0,
-    0,
-    0,
-    0,
-    0,
-    0,
-    0,
-    0,
-    0,
-    0,
-    0,
-    0,
-    2,
-    4,
-    6,
-    8,
-    10,
-    12,
-    14,
-    16,
-    18,
-    20,
-    22,
-    24,
-    26,
-    28,
-    30,
-    32,
-    34,
-    36,
-    38,
-    40,
+const TEXT_STARTS: [u8; 34] = [
     42,
     45,
     48,
@@ -502,87 +120,87 @@ const TEXT_STARTS: [usize; 181] = [
     91,
     94,
     97,
-    98,
-    98,
-    98,
-    98,
-    98,
-    98,
-    98,
-    98,
-    98,
-    98,
-    98,
-    98,
-    98,
-    98,
-    98,
-    98,
-    98,
-    98,
-    98,
-    98,
-    98,
-    98,
-    98,
-    98,
-    98,
-    98,
-    98,
-    98,
-    98,
-    98,
-    98,
-    98,
-    98,
-    98,
-    98,
-    98,
-    98,
-    98,
-    98,
-    98,
-    98,
-    98,
-    98,
-    98,
-    98,
-    98,
-    98,
-    98,
-    98,
-    98,
-    98,
-    98,
-    98,
-    98,
-    98,
-    98,
-    98,
-    98,
-    98,
-    98,
-    98,
 ];
 
 // The texts, one behind the other.
 const TEXTS: [u8; 99] =
     *b"'a'b'c'd'e'f'g'h'i'k'm'n'p'q'r's't'u'w'x'znatintboolTrueFalse~\xc3\xb7||op_Star*=>>=<=<><<<|\xc2\xb1\xe2\x88\x81\xe2\x88\x82\xe2\x88\x9a~<";
 
-// The kind of entry k.
+// A byte as a number.
+fn wide(x: u8) -> usize
+    ensures { λ r. ⌜ r ≡ x ⌝ }
+{
+    x as usize
+}
+
+// A byte as a kind.
+fn kind_of_byte(x: u8) -> u32
+    ensures { λ r. ⌜ r ≡ x ⌝ }
+{
+    x as u32
+}
+
+// The kind of entry k: nearly all kinds run along with the places.
 pub fn kind_at(k: usize) -> u32
     requires { ⌜ k < 180 ⌝ }
     ensures { λ r. ⌜ r ≡ kind (entry entries k .1) ⌝ }
 {
-    KINDS[k]
+    if k < 21 {
+        return k as u32 + 1;
+    }
+    if k < 66 {
+        return k as u32;
+    }
+    if k < 89 {
+        return 65;
+    }
+    if k < 119 {
+        return kind_of_byte(UOPERATOR_KINDS[k - 89]);
+    }
+    if k < 172 {
+        return k as u32 - 53;
+    }
+    if k < 176 {
+        return 146;
+    }
+    147
 }
 
-// How long text k is.
+// How long text k is: nearly all are empty.
 pub fn text_length(k: usize) -> usize
     requires { ⌜ k < 181 ⌝ }
     ensures { λ r. ⌜ r ≡ length (getD texts k []) ⌝ }
 {
-    TEXT_LENGTHS[k]
+    if k < 65 {
+        return 0;
+    }
+    if k < 86 {
+        return 2;
+    }
+    if k < 120 {
+        return wide(TEXT_LENGTHS[k - 86]);
+    }
+    if k < 180 {
+        return 0;
+    }
+    1
+}
+
+// Where text k begins among the texts.
+fn text_start(k: usize) -> usize
+    requires { ⌜ k < 181 ⌝ }
+    ensures { λ r. ⌜ r ≡ getD (starts 0 texts) k 0 ⌝ }
+{
+    if k < 65 {
+        return 0;
+    }
+    if k < 86 {
+        return 2 * k - 130;
+    }
+    if k < 120 {
+        return wide(TEXT_STARTS[k - 86]);
+    }
+    98
 }
 
 // Byte j of text k.
@@ -590,7 +208,7 @@ fn text_byte(k: usize, j: usize) -> u8
     requires { ⌜ (k < 181) × (j < length (getD texts k [])) ⌝ }
     ensures { λ r. ⌜ r ≡ getD (getD texts k []) j 0 ⌝ }
 {
-    TEXTS[TEXT_STARTS[k] + j]
+    TEXTS[text_start(k) + j]
 }
 
 // Writes text k to the front of the buffer.

@@ -1,58 +1,42 @@
--- A lexeme against a word of the table, byte by byte: the rows of the code are the words, filled up. Rests on the laws of a prefix.
-use Prim.Native.Nat.{ℕ, zero, suc, _+_, _*_, _-_, _≤_, _<_}
+-- A lexeme against a word, and the places of words. Rests on the laws of a prefix.
+use Prim.Native.Nat.{ℕ, zero, suc, _+_, _-_, _≤_, _<_}
 use mathlib.Core.Path.{_≡_, refl, sym, ap, _∙_}
 use mathlib.Core.Bool.{Bool, true, false, _&&_}
-use mathlib.Core.List.{List, [], _∷_, _++_, append-assoc, map}
-use native.Mathlib.Nat.{not-suc-le-zero}
+use mathlib.Core.List.{List, [], _∷_}
 use native.Mathlib.Omega.{arith}
 use lib.Dec.{eqb, leb}
-use lib.ListN.{length, getD, take, replicate, length-append, length-replicate, List·getD-append}
-use lib.Seq.{take-all, getD-append-add}
+use lib.ListN.{length, getD, take}
+use lib.Seq.{take-all}
 use borrow.Author.Tests.{eq-eqb, ne-eqb, eqb-true, eqb-false, leb-true}
 use Rattle.definition.specs.Basics.{Bytes, same}
 use Rattle.definition.specs.Token.{starts-with}
 use Rattle.lemmas.proofs.Cases.{by-outcome, both}
-use Rattle.lookups.specs.Places.{key, words}
+use Rattle.lemmas.proofs.Members.{Rest}
+use Rattle.lookups.specs.Places.{key}
 use Rattle.lookups.proofs.Chains.{same-equal}
-use Rattle.lookups.proofs.Prefix.{Agrees}
 
--- a word, filled up
-abbrev pub pad : Bytes → Bytes
-pad w = w ++ replicate (21 - length w) 0
+-- every number is at most b
+abbrev all-up-to : ℕ → List ℕ → Bool
+all-up-to b [] = true
+all-up-to b (x ∷ l) = leb x b && all-up-to b l
 
--- The code's lengths are the words'.
-pub length-at : (l : List Bytes) (k : ℕ) → getD (map length l) k 0 ≡ length (getD l k [])
-length-at [] k = refl
-length-at (w ∷ l) zero = refl
-length-at (w ∷ l) (suc k) = length-at l k
+pub up-to-at : (b : ℕ) (l : List ℕ) → all-up-to b l ≡ true → (k : ℕ) → getD l k 0 ≤ b
+up-to-at b [] e k = omega arith
+up-to-at b (x ∷ l) e zero = leb-true x b (both (leb x b) (all-up-to b l) e .0)
+up-to-at b (x ∷ l) e (suc k) = up-to-at b l (both (leb x b) (all-up-to b l) e .1) k
 
--- every number is at most 21
-abbrev all-small : List ℕ → Bool
-all-small [] = true
-all-small (x ∷ l) = leb x 21 && all-small l
+-- the keys of a `match` with an arm for each of the n numbers from a on, the last one first
+abbrev pub arms : ℕ → ℕ → List (List ℕ)
+arms a zero = []
+arms a (suc n) = ((a + n) ∷ []) ∷ arms a n
 
-pub small-at : (l : List ℕ) → all-small l ≡ true → (k : ℕ) → getD l k 0 ≤ 21
-small-at [] e k = omega arith
-small-at (x ∷ l) e zero = leb-true x 21 (both (leb x 21) (all-small l) e .0)
-small-at (x ∷ l) e (suc k) = small-at l (both (leb x 21) (all-small l) e .1) k
-
--- the words in rows, one behind the other
-abbrev pub rows : List Bytes → Bytes
-rows [] = []
-rows (w ∷ l) = pad w ++ rows l
-
--- Within a word its row has the word's bytes.
-pub row-at : (l : List Bytes) (k i : ℕ) → all-small (map length l) ≡ true → i < length (getD l k []) → getD (rows l) (21 * k + i) 0 ≡ getD (getD l k []) i 0
-row-at [] k i s h = absurd (not-suc-le-zero h)
-row-at (w ∷ l) zero i s h =
-    let z : 21 * 0 + i ≡ i = omega arith in
-    rw (z, append-assoc) (List·getD-append w (replicate (21 - length w) 0 ++ rows l) 0 i h)
-row-at (w ∷ l) (suc k) i s h =
-    let b = both (leb (length w) 21) (all-small (map length l)) s in
-    let m : length w ≤ 21 = leb-true (length w) 21 (b .0) in
-    let p : length (pad w) ≡ 21 = simp (length-append, length-replicate) (omega arith) in
-    let q : 21 * suc k + i ≡ length (pad w) + (21 * k + i) = omega arith in
-    ap (λ (n : ℕ). getD (pad w ++ rows l) n 0) q ∙ getD-append-add (pad w) (rows l) (21 * k + i) 0 ∙ row-at l k i (b .1) h
+-- Such a `match` leaves none of these numbers to its last arm.
+pub none-left : (a n k : ℕ) → Rest (arms a n) k → a ≤ k → k < a + n → ⊥
+none-left a zero k h p q = omega arith
+none-left a (suc n) k (h, m) p q =
+    by-outcome (eqb k (a + n))
+    (λ e. m (eqb-true k (a + n) e))
+    (λ e. let d = eqb-false k (a + n) e in none-left a n k h p (omega arith))
 
 -- The same test from either side.
 same-sym : (a b : Bytes) → same a b ≡ same b a

@@ -1,40 +1,60 @@
--- The first word of the table with the lexeme's key is where the search begins; what it seeks among is the table.
-use native.Mathlib.Omega.{arith}
-use Prim.Native.Nat.{_<_}
-use mathlib.Core.Path.{_∙_}
+-- The three words are tried in the table's order.
+use mathlib.Core.Path.{sym, _∙_}
 use Rattle.definition.specs.Utf8.{encode, encode-all}
 use Rattle.definition.specs.Tables.{cps, keywords, constructors, uoperators}
-use Rattle.lookups.specs.Places.{words, key, hop}
-use Rattle.lookups.proofs.Chains.{firsts, first-at, key-small, chain-begins, seek-table}
 use borrow.Author.Needs.{needs}
+use Rattle.lookups.specs.Places.{place, words}
 use Rattle.lookups.proofs.table.constructor.Statement.{statement}
 use Rattle.lookups.proofs.table.constructor.Tie as tie
 
-key-requires : tie.Need-key-requires
-key-requires c κs = search needs
-
-mul-follow : tie.Need-mul-follow
-mul-follow c =
-    let h : c .key .result < 64 = rw (c .key .ensures) (key-small _) in
-    omega arith
-
-array-read-follow : tie.Need-array-read-follow
-array-read-follow c =
-    let h : c .key .result < 64 = rw (c .key .ensures) (key-small _) in
-    omega arith
-
-follow-requires : tie.Need-follow-requires
-unfolding firsts words keywords constructors uoperators cps encode-all encode key hop
-follow-requires c κs =
-    let id = c .before .before .args .id .now in
-    chain-begins id 86 89 _ (rw (c .key .ensures) (first-at 86 id)) (omega arith) (omega arith)
+is-word-requires : tie.Need-is-word-requires
+is-word-requires c κs = search needs
 
 returns : tie.Need-returns
-unfolding firsts words keywords constructors uoperators cps encode-all encode key hop
+unfolding place words keywords constructors uoperators cps encode-all encode
 returns c =
-    let id = c .before .before .before .args .id .now in
-    c .follow .ensures ∙ seek-table id 86 89 _ (rw (c .before .key .ensures) (first-at 86 id)) (omega arith) (omega arith)
+    let e = sym (c .before .is-word .ensures) ∙ c .if1 .taken in
+    rw (place, e)
+
+is-word-requires-2 : tie.Need-is-word-requires-2
+is-word-requires-2 c κs = search needs
+
+returns-2 : tie.Need-returns-2
+unfolding place words keywords constructors uoperators cps encode-all encode
+returns-2 c =
+    let n = sym (c .before .before .before .is-word .ensures) ∙ c .before .before .if1 .left in
+    let e = sym (c .before .is-word2 .ensures) ∙ c .if2 .taken in
+    rw (place, n, place, e)
+
+is-word-requires-3 : tie.Need-is-word-requires-3
+is-word-requires-3 c κs = search needs
+
+returns-3 : tie.Need-returns-3
+unfolding place words keywords constructors uoperators cps encode-all encode
+returns-3 c =
+    let d = c .before .before in
+    let n = sym (d .before .before .before .is-word .ensures) ∙ d .before .before .if1 .left in
+    let m = sym (d .before .is-word2 .ensures) ∙ d .if2 .left in
+    let e = sym (c .before .is-word3 .ensures) ∙ c .if3 .taken in
+    rw (place, n, place, m, place, e)
+
+returns-4 : tie.Need-returns-4
+unfolding place words keywords constructors uoperators cps encode-all encode
+returns-4 c =
+    let d = c .before .before in
+    let n = sym (d .before .before .before .is-word .ensures) ∙ d .before .before .if1 .left in
+    let m = sym (d .before .is-word2 .ensures) ∙ d .if2 .left in
+    let e = sym (c .before .is-word3 .ensures) ∙ c .if3 .left in
+    rw (place, n, place, m, place, e)
 
 pub constructor-spec : {M : Type 1} → statement M
 constructor-spec =
-    tie.close (tie.spec key-requires mul-follow array-read-follow follow-requires returns)
+    tie.close
+    (tie.spec
+    is-word-requires
+    returns
+    is-word-requires-2
+    returns-2
+    is-word-requires-3
+    returns-3
+    returns-4)

@@ -2,12 +2,13 @@
 -- table.
 use native.Mathlib.Omega.{arith}
 use Prim.Native.Nat.{_-_, _<_}
-use mathlib.Core.Path.{sym, _∙_}
+use mathlib.Core.Path.{refl, sym, _∙_}
 use Rattle.definition.specs.Basics.{same}
 use Rattle.definition.specs.Utf8.{encode, encode-all}
 use Rattle.definition.specs.Tables.{cps, keywords, constructors, uoperators}
 use Rattle.lookups.specs.Places.{words, key, hop}
 use Rattle.lookups.proofs.Chains.{Seeking, nexts, next-at, next-later, seeking-starts, seeking-found, seeking-goes-on, seeking-ends}
+use Rattle.lookups.proofs.Rows.{up-to-at}
 use borrow.Author.Needs.{needs}
 use Rattle.lookups.proofs.table.follow.Statement.{statement}
 use Rattle.lookups.proofs.table.follow.Tie as tie
@@ -29,13 +30,14 @@ returns c =
     let d = c .before .before in
     seeking-found (d .before .loop .inv) (d .loop-test .taken) (sym (c .before .is-word .ensures) ∙ c .if1 .taken)
 
-mul-k : tie.Need-mul-k Inv-loop μ-loop
-mul-k c = search needs
-
 array-read-k : tie.Need-array-read-k Inv-loop μ-loop
 array-read-k c =
     let d = c .before .before in
     omega (arith, d .before .loop .inv .ends)
+
+cast-k : tie.Need-cast-k Inv-loop μ-loop
+unfolding nexts words keywords constructors uoperators cps encode-all encode key hop
+cast-k c = omega (arith, up-to-at 119 (nexts 0 words) refl (c .before .before .before .loop .k))
 
 loop-less : tie.Need-loop-less Inv-loop μ-loop
 unfolding nexts words keywords constructors uoperators cps encode-all encode key hop
@@ -65,8 +67,8 @@ follow-spec =
     loop-holds
     is-word-requires
     returns
-    mul-k
     array-read-k
+    cast-k
     loop-less
     loop-again
     returns-2)

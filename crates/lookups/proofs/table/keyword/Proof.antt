@@ -1,11 +1,12 @@
 -- The first word of the table with the lexeme's key is where the search begins; what it seeks among is the table.
 use native.Mathlib.Omega.{arith}
 use Prim.Native.Nat.{_<_}
-use mathlib.Core.Path.{_∙_}
+use mathlib.Core.Path.{refl, _∙_}
 use Rattle.definition.specs.Utf8.{encode, encode-all}
 use Rattle.definition.specs.Tables.{cps, keywords, constructors, uoperators}
 use Rattle.lookups.specs.Places.{words, key, hop}
 use Rattle.lookups.proofs.Chains.{firsts, first-at, key-small, chain-begins, seek-table}
+use Rattle.lookups.proofs.Rows.{up-to-at}
 use borrow.Author.Needs.{needs}
 use Rattle.lookups.proofs.table.keyword.Statement.{statement}
 use Rattle.lookups.proofs.table.keyword.Tie as tie
@@ -13,15 +14,14 @@ use Rattle.lookups.proofs.table.keyword.Tie as tie
 key-requires : tie.Need-key-requires
 key-requires c κs = search needs
 
-mul-follow : tie.Need-mul-follow
-mul-follow c =
-    let h : c .key .result < 64 = rw (c .key .ensures) (key-small _) in
-    omega arith
-
 array-read-follow : tie.Need-array-read-follow
 array-read-follow c =
     let h : c .key .result < 64 = rw (c .key .ensures) (key-small _) in
     omega arith
+
+cast-follow : tie.Need-cast-follow
+unfolding firsts words keywords constructors uoperators cps encode-all encode key hop
+cast-follow c = omega (arith, up-to-at 119 (firsts 0 0 64) refl (c .key .result))
 
 follow-requires : tie.Need-follow-requires
 unfolding firsts words keywords constructors uoperators cps encode-all encode key hop
@@ -37,4 +37,4 @@ returns c =
 
 pub keyword-spec : {M : Type 1} → statement M
 keyword-spec =
-    tie.close (tie.spec key-requires mul-follow array-read-follow follow-requires returns)
+    tie.close (tie.spec key-requires array-read-follow cast-follow follow-requires returns)
