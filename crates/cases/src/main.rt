@@ -20,6 +20,8 @@ mod running; // running.rt: the runs of a case
 
 use compare::BYTES;
 use compare::NUMBERS;
+use compare::blank_bytes;
+use compare::blank_numbers;
 use compare::same_state;
 use compare::size_of_all;
 use definition::State;
@@ -27,6 +29,7 @@ use given::Case;
 use given::take_line;
 use given::zeros;
 use libc::STDOUT_FILENO;
+use parse::line_after;
 use parse::line_end;
 use report::Site;
 use report::differs;
@@ -307,11 +310,9 @@ fn check_all(
     let mut at = 0;
     while at < lines.len() {
         let end = line_end(lines, at);
+        let next = line_after(lines, at, end);
         now = next_line(file, &lines[at..end], now, text, name, classes, want, bytes);
-        if end == lines.len() {
-            return now;
-        }
-        at = end + 1;
+        at = next;
     }
     now
 }
@@ -371,47 +372,66 @@ fn conclude(now: Progress) {
     io::write_all(STDOUT_FILENO, b" differences\n");
 }
 
-fn main() {
-    let mut lines = file_buffer();
-    let mut text = text_buffer();
-    let mut name = name_buffer();
-    let mut classes = class_buffer();
-    let mut want = compare::blank_numbers();
-    let mut bytes = compare::blank_bytes();
+// The three files.
+fn check_files(
+    lines: &mut [u8],
+    text: &mut [u8],
+    name: &mut [u8],
+    classes: &mut [u8],
+    want: &mut [u32],
+    bytes: &mut [u8],
+) {
     let none = Case::new(false, 0, 0);
-    let mut now = Progress {
+    let first = Progress {
         case: none,
         number: 0,
         begun: 0,
         cases: 0,
         differences: 0,
     };
-    now = check_file(
+    let second = check_file(
         0,
         b"document.cases",
-        now,
-        &mut lines,
-        &mut text,
-        &mut name,
-        &mut classes,
-        &mut want,
-        &mut bytes,
+        first,
+        lines,
+        text,
+        name,
+        classes,
+        want,
+        bytes,
     );
-    now = check_file(
+    let third = check_file(
         1,
         b"short.cases",
-        now,
-        &mut lines,
-        &mut text,
-        &mut name,
-        &mut classes,
-        &mut want,
-        &mut bytes,
+        second,
+        lines,
+        text,
+        name,
+        classes,
+        want,
+        bytes,
     );
-    now = check_file(
+    conclude(check_file(
         2,
         b"long.cases",
-        now,
+        third,
+        lines,
+        text,
+        name,
+        classes,
+        want,
+        bytes,
+    ));
+}
+
+fn main() {
+    let mut lines = file_buffer();
+    let mut text = text_buffer();
+    let mut name = name_buffer();
+    let mut classes = class_buffer();
+    let mut want = blank_numbers();
+    let mut bytes = blank_bytes();
+    check_files(
         &mut lines,
         &mut text,
         &mut name,
@@ -419,5 +439,4 @@ fn main() {
         &mut want,
         &mut bytes,
     );
-    conclude(now);
 }

@@ -1,6 +1,6 @@
 // What a line of a case file says: its word, the numbers behind it, or the bytes.
 // Proved: each function is safe and ends. Assumed: nothing.
-ghost use Prim.Native.Nat.{_≤_};
+ghost use Prim.Native.Nat.{_≤_, _<_};
 ghost use lib.ListN.{length};
 
 // More than any buffer holds: what a line gives whose bytes can't be read or find no room.
@@ -27,6 +27,17 @@ pub fn line_end(lines: &[u8], from: usize) -> usize
         i += 1;
     }
     i
+}
+
+// Where the line behind the one from `from` to `end` begins; the end of the lines where there is none.
+pub fn line_after(lines: &[u8], from: usize, end: usize) -> usize
+    requires { ⌜ (from ≤ end) × (from < length (now lines)) ⌝ }
+    ensures { λ r. ⌜ (from < r) × (r ≤ length (now (lines .entry))) ⌝ }
+{
+    if end < lines.len() {
+        return end + 1;
+    }
+    lines.len()
 }
 
 // Where the line's first word ends.
