@@ -43,6 +43,8 @@ ghost use mathlib.Core.Path.{_≡_};
 ghost use lib.ListN.{length};
 ghost use Rattle.io.specs.Counts.{Counts};
 
+const FILES: u32 = 3;
+
 // How far a file is read: the case that is open, the number of the last line and of the line where the case began, how many
 // cases were run, and how many differences were found.
 struct Progress {
@@ -317,11 +319,20 @@ fn check_all(
     now
 }
 
+// Opens a file of cases, in the order of `report::write_file`.
+fn open_cases(file: u32) -> i32 {
+    match file {
+        0 => os::open_read(b"document.cases"),
+        1 => os::open_read(b"short.cases"),
+        _ => os::open_read(b"long.cases"),
+    }
+}
+
 // Reads a file of cases and answers how many bytes it has; none where it can't be opened.
-fn read_cases(path: &[u8], lines: &mut [u8]) -> usize
+fn read_cases(file: u32, lines: &mut [u8]) -> usize
     ensures { λ r. ⌜ Counts r (now (lines .exit)) ⌝ }
 {
-    let fd = os::open_read(path);
+    let fd = open_cases(file);
     if fd < 0 {
         return 0;
     }
@@ -333,7 +344,6 @@ fn read_cases(path: &[u8], lines: &mut [u8]) -> usize
 // The progress behind a file. Each file has cases, and room is left behind the longest.
 fn check_file(
     file: u32,
-    path: &[u8],
     before: Progress,
     lines: &mut [u8],
     text: &mut [u8],
@@ -344,7 +354,7 @@ fn check_file(
 ) -> Progress {
     let mut now = before;
     now.number = 0;
-    let n = read_cases(path, lines);
+    let n = read_cases(file, lines);
     let site = Site {
         file: file,
         line: 0,
@@ -372,7 +382,7 @@ fn conclude(now: Progress) {
     io::write_all(STDOUT_FILENO, b" differences\n");
 }
 
-// The three files.
+// All files.
 fn check_files(
     lines: &mut [u8],
     text: &mut [u8],
@@ -382,46 +392,19 @@ fn check_files(
     bytes: &mut [u8],
 ) {
     let none = Case::new(false, 0, 0);
-    let first = Progress {
+    let mut now = Progress {
         case: none,
         number: 0,
         begun: 0,
         cases: 0,
         differences: 0,
     };
-    let second = check_file(
-        0,
-        b"document.cases",
-        first,
-        lines,
-        text,
-        name,
-        classes,
-        want,
-        bytes,
-    );
-    let third = check_file(
-        1,
-        b"short.cases",
-        second,
-        lines,
-        text,
-        name,
-        classes,
-        want,
-        bytes,
-    );
-    conclude(check_file(
-        2,
-        b"long.cases",
-        third,
-        lines,
-        text,
-        name,
-        classes,
-        want,
-        bytes,
-    ));
+    let mut file = 0;
+    while file < FILES {
+        now = check_file(file, now, lines, text, name, classes, want, bytes);
+        file += 1;
+    }
+    conclude(now);
 }
 
 fn main() {
