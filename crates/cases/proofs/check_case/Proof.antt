@@ -1,122 +1,91 @@
+-- `check_case` is safe and ends. Each part is as long as the case says.
 use lib.ListN.{length-take}
 use native.Mathlib.Omega.{arith}
 use borrow.Author.Needs.{needs}
 use Rattle.cases.proofs.check_case.Statement.{statement}
 use Rattle.cases.proofs.check_case.Tie as tie
-use Rattle.cases.proofs.check_case.Reads as reads
-use Rattle.cases.proofs.check_case.Lts as lts
-use Rattle.cases.proofs.check_runs.Reads as check-runs-reads
-use Rattle.cases.proofs.report.differs.Reads as differs-reads
 
--- src/main.rt:194:30
 slice-aggregate-differs : tie.Need-slice-aggregate-differs
 slice-aggregate-differs c = search needs
 
--- src/main.rt:194:9
 differs-requires : tie.Need-differs-requires
 differs-requires c κs = search needs
 
--- src/main.rt:194:9
 returns : tie.Need-returns
 returns c = search needs
 
--- src/main.rt:197:30
 slice-aggregate-differs-2 : tie.Need-slice-aggregate-differs-2
 slice-aggregate-differs-2 c = search needs
 
--- src/main.rt:197:9
 differs-requires-2 : tie.Need-differs-requires-2
 differs-requires-2 c κs = search needs
 
--- src/main.rt:197:9
 returns-2 : tie.Need-returns-2
 returns-2 c = search needs
 
--- src/main.rt:200:30
 slice-aggregate-differs-3 : tie.Need-slice-aggregate-differs-3
 slice-aggregate-differs-3 c = search needs
 
--- src/main.rt:200:9
 differs-requires-3 : tie.Need-differs-requires-3
 differs-requires-3 c κs = search needs
 
--- src/main.rt:200:9
 returns-3 : tie.Need-returns-3
 returns-3 c = search needs
 
--- src/main.rt:203:30
 slice-aggregate-differs-4 : tie.Need-slice-aggregate-differs-4
 slice-aggregate-differs-4 c = search needs
 
--- src/main.rt:203:9
 differs-requires-4 : tie.Need-differs-requires-4
 differs-requires-4 c κs = search needs
 
--- src/main.rt:203:9
 returns-4 : tie.Need-returns-4
 returns-4 c = search needs
 
--- src/main.rt:206:30
 slice-aggregate-differs-5 : tie.Need-slice-aggregate-differs-5
 slice-aggregate-differs-5 c = search needs
 
--- src/main.rt:206:9
 differs-requires-5 : tie.Need-differs-requires-5
 differs-requires-5 c κs = search needs
 
--- src/main.rt:206:9
 returns-5 : tie.Need-returns-5
 returns-5 c = search needs
 
--- src/main.rt:209:30
 slice-aggregate-differs-6 : tie.Need-slice-aggregate-differs-6
 slice-aggregate-differs-6 c = search needs
 
--- src/main.rt:209:9
 differs-requires-6 : tie.Need-differs-requires-6
 differs-requires-6 c κs = search needs
 
--- src/main.rt:209:9
 returns-6 : tie.Need-returns-6
 returns-6 c = search needs
 
--- src/main.rt:212:30
 slice-aggregate-differs-7 : tie.Need-slice-aggregate-differs-7
 slice-aggregate-differs-7 c = search needs
 
--- src/main.rt:212:9
 differs-requires-7 : tie.Need-differs-requires-7
 differs-requires-7 c κs = search needs
 
--- src/main.rt:212:9
 returns-7 : tie.Need-returns-7
 returns-7 c = search needs
 
--- src/main.rt:216:9
 slice-aggregate-check-runs : tie.Need-slice-aggregate-check-runs
 slice-aggregate-check-runs c = simp length-take (omega arith)
 
--- src/main.rt:217:9
 slice-aggregate-check-runs-2 : tie.Need-slice-aggregate-check-runs-2
 slice-aggregate-check-runs-2 c = simp length-take (omega arith)
 
--- src/main.rt:218:9
 slice-aggregate-check-runs-3 : tie.Need-slice-aggregate-check-runs-3
 slice-aggregate-check-runs-3 c = simp length-take (omega arith)
 
--- src/main.rt:219:9
 slice-aggregate-check-runs-4 : tie.Need-slice-aggregate-check-runs-4
 slice-aggregate-check-runs-4 c = simp length-take (omega arith)
 
--- src/main.rt:220:9
 slice-aggregate-check-runs-5 : tie.Need-slice-aggregate-check-runs-5
 slice-aggregate-check-runs-5 c = simp length-take (omega arith)
 
--- src/main.rt:214:5
 check-runs-requires : tie.Need-check-runs-requires
 check-runs-requires c κs = search needs
 
--- src/main.rt:179:1
 returns-8 : tie.Need-returns-8
 returns-8 c = search needs
 

@@ -1,12 +1,10 @@
+-- `put_record` is safe and ends. The index stays within the record, and the buffer keeps its length.
 use mathlib.Core.Path.{_≡_}
 use Prim.Native.Nat.{_≤_, _-_}
 use lib.ListN.{length}
-use native.Mathlib.Omega.{arith}
 use borrow.Author.Needs.{needs}
 use Rattle.cases.proofs.compare.put_record.Statement.{statement}
 use Rattle.cases.proofs.compare.put_record.Tie as tie
-use Rattle.cases.proofs.compare.put_record.Reads as reads
-use Rattle.cases.proofs.compare.put_record.Lts as lts
 
 abbrev Inv-loop : tie.InvT-loop
 Inv-loop want at used numbers₀ to i₀ numbers i = (i ≤ 16) × (length numbers ≡ length numbers₀)
@@ -14,63 +12,48 @@ Inv-loop want at used numbers₀ to i₀ numbers i = (i ≤ 16) × (length numbe
 abbrev μ-loop : tie.MeasureT-loop
 μ-loop want at used numbers₀ to i₀ numbers i = 16 - i
 
--- src/compare.rt:68:5
 loop-holds : tie.Need-loop-holds Inv-loop μ-loop
 loop-holds c = search needs
 
--- src/compare.rt:69:32
 add-numbers : tie.Need-add-numbers Inv-loop μ-loop
 add-numbers c = search needs
 
--- src/compare.rt:69:27
 mul-numbers : tie.Need-mul-numbers Inv-loop μ-loop
 mul-numbers c = search needs
 
--- src/compare.rt:69:27
 shared-slice-read-numbers : tie.Need-shared-slice-read-numbers Inv-loop μ-loop
 shared-slice-read-numbers c = search needs
 
--- src/compare.rt:69:17
 add-numbers-2 : tie.Need-add-numbers-2 Inv-loop μ-loop
 add-numbers-2 c = search needs
 
--- src/compare.rt:69:9
 mul-numbers-2 : tie.Need-mul-numbers-2 Inv-loop μ-loop
 mul-numbers-2 c = search needs
 
--- src/compare.rt:69:9
 slice-write-numbers : tie.Need-slice-write-numbers Inv-loop μ-loop
 slice-write-numbers c = search needs
 
--- src/compare.rt:70:9
 add-i : tie.Need-add-i Inv-loop μ-loop
 add-i c = search needs
 
--- src/compare.rt:68:5
 loop-less : tie.Need-loop-less Inv-loop μ-loop
 loop-less c = search needs
 
--- src/compare.rt:68:5
 loop-again : tie.Need-loop-again Inv-loop μ-loop
 loop-again c = search needs
 
--- src/compare.rt:72:13
 add-numbers-3 : tie.Need-add-numbers-3 Inv-loop μ-loop
 add-numbers-3 c = search needs
 
--- src/compare.rt:72:5
 mul-numbers-3 : tie.Need-mul-numbers-3 Inv-loop μ-loop
 mul-numbers-3 c = search needs
 
--- src/compare.rt:72:5
 slice-write-numbers-2 : tie.Need-slice-write-numbers-2 Inv-loop μ-loop
 slice-write-numbers-2 c = search needs
 
--- src/compare.rt:64:1
 same-length : tie.Need-same-length Inv-loop μ-loop
 same-length c = search needs
 
--- src/compare.rt:64:1
 returns : tie.Need-returns Inv-loop μ-loop
 returns c = search needs
 

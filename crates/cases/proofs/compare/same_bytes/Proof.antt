@@ -1,12 +1,8 @@
+-- `same_bytes` is safe and ends. The measure is what is left of the buffer.
 use Prim.Native.Nat.{_-_}
-use native.Mathlib.Omega.{arith}
 use borrow.Author.Needs.{needs}
 use Rattle.cases.proofs.compare.same_bytes.Statement.{statement}
 use Rattle.cases.proofs.compare.same_bytes.Tie as tie
-use Rattle.cases.proofs.compare.same_bytes.Reads as reads
-use Rattle.cases.proofs.compare.same_bytes.Lts as lts
-use Rattle.cases.proofs.compare.wide.Reads as wide-reads
-use Rattle.cases.proofs.report.differ_at.Reads as differ-at-reads
 
 abbrev Inv-loop : tie.InvT-loop
 Inv-loop site found due i₀ t5 i = Unit {0}
@@ -14,59 +10,45 @@ Inv-loop site found due i₀ t5 i = Unit {0}
 abbrev μ-loop : tie.MeasureT-loop
 μ-loop site found due i₀ t5 i = 8192 - i
 
--- src/compare.rt:136:5
 loop-holds : tie.Need-loop-holds Inv-loop μ-loop
 loop-holds c = search needs
 
--- src/compare.rt:137:12
 element-copy-out-if1 : tie.Need-element-copy-out-if1 Inv-loop μ-loop
 element-copy-out-if1 c = search needs
 
--- src/compare.rt:137:24
 element-copy-out-if1-2 : tie.Need-element-copy-out-if1-2 Inv-loop μ-loop
 element-copy-out-if1-2 c = search needs
 
--- src/compare.rt:138:36
 slice-aggregate-differ-at : tie.Need-slice-aggregate-differ-at Inv-loop μ-loop
 slice-aggregate-differ-at c = search needs
 
--- src/compare.rt:138:61
 element-copy-out-wide : tie.Need-element-copy-out-wide Inv-loop μ-loop
 element-copy-out-wide c = search needs
 
--- src/compare.rt:138:56
 wide-requires : tie.Need-wide-requires Inv-loop μ-loop
 wide-requires c κs = search needs
 
--- src/compare.rt:138:77
 element-copy-out-wide-2 : tie.Need-element-copy-out-wide-2 Inv-loop μ-loop
 element-copy-out-wide-2 c = search needs
 
--- src/compare.rt:138:72
 wide-requires-2 : tie.Need-wide-requires-2 Inv-loop μ-loop
 wide-requires-2 c κs = search needs
 
--- src/compare.rt:138:13
 differ-at-requires : tie.Need-differ-at-requires Inv-loop μ-loop
 differ-at-requires c κs = search needs
 
--- src/compare.rt:138:13
 returns : tie.Need-returns Inv-loop μ-loop
 returns c = search needs
 
--- src/compare.rt:140:9
 add-i : tie.Need-add-i Inv-loop μ-loop
 add-i c = search needs
 
--- src/compare.rt:136:5
 loop-less : tie.Need-loop-less Inv-loop μ-loop
 loop-less c = search needs
 
--- src/compare.rt:136:5
 loop-again : tie.Need-loop-again Inv-loop μ-loop
 loop-again c = search needs
 
--- src/compare.rt:134:1
 returns-2 : tie.Need-returns-2 Inv-loop μ-loop
 returns-2 c = search needs
 

@@ -1,11 +1,8 @@
+-- `same_numbers` is safe and ends. The measure is what is left of the buffer.
 use Prim.Native.Nat.{_-_}
-use native.Mathlib.Omega.{arith}
 use borrow.Author.Needs.{needs}
 use Rattle.cases.proofs.compare.same_numbers.Statement.{statement}
 use Rattle.cases.proofs.compare.same_numbers.Tie as tie
-use Rattle.cases.proofs.compare.same_numbers.Reads as reads
-use Rattle.cases.proofs.compare.same_numbers.Lts as lts
-use Rattle.cases.proofs.report.differ_at.Reads as differ-at-reads
 
 abbrev Inv-loop : tie.InvT-loop
 Inv-loop site found due i₀ t5 i = Unit {0}
@@ -13,67 +10,51 @@ Inv-loop site found due i₀ t5 i = Unit {0}
 abbrev μ-loop : tie.MeasureT-loop
 μ-loop site found due i₀ t5 i = 2048 - i
 
--- src/compare.rt:120:5
 loop-holds : tie.Need-loop-holds Inv-loop μ-loop
 loop-holds c = search needs
 
--- src/compare.rt:121:12
 mul-if1 : tie.Need-mul-if1 Inv-loop μ-loop
 mul-if1 c = search needs
 
--- src/compare.rt:121:12
 element-copy-out-if1 : tie.Need-element-copy-out-if1 Inv-loop μ-loop
 element-copy-out-if1 c = search needs
 
--- src/compare.rt:121:24
 mul-if1-2 : tie.Need-mul-if1-2 Inv-loop μ-loop
 mul-if1-2 c = search needs
 
--- src/compare.rt:121:24
 element-copy-out-if1-2 : tie.Need-element-copy-out-if1-2 Inv-loop μ-loop
 element-copy-out-if1-2 c = search needs
 
--- src/compare.rt:122:36
 slice-aggregate-differ-at : tie.Need-slice-aggregate-differ-at Inv-loop μ-loop
 slice-aggregate-differ-at c = search needs
 
--- src/compare.rt:122:57
 mul-differ-at : tie.Need-mul-differ-at Inv-loop μ-loop
 mul-differ-at c = search needs
 
--- src/compare.rt:122:57
 element-copy-out-differ-at : tie.Need-element-copy-out-differ-at Inv-loop μ-loop
 element-copy-out-differ-at c = search needs
 
--- src/compare.rt:122:67
 mul-differ-at-2 : tie.Need-mul-differ-at-2 Inv-loop μ-loop
 mul-differ-at-2 c = search needs
 
--- src/compare.rt:122:67
 element-copy-out-differ-at-2 : tie.Need-element-copy-out-differ-at-2 Inv-loop μ-loop
 element-copy-out-differ-at-2 c = search needs
 
--- src/compare.rt:122:13
 differ-at-requires : tie.Need-differ-at-requires Inv-loop μ-loop
 differ-at-requires c κs = search needs
 
--- src/compare.rt:122:13
 returns : tie.Need-returns Inv-loop μ-loop
 returns c = search needs
 
--- src/compare.rt:124:9
 add-i : tie.Need-add-i Inv-loop μ-loop
 add-i c = search needs
 
--- src/compare.rt:120:5
 loop-less : tie.Need-loop-less Inv-loop μ-loop
 loop-less c = search needs
 
--- src/compare.rt:120:5
 loop-again : tie.Need-loop-again Inv-loop μ-loop
 loop-again c = search needs
 
--- src/compare.rt:118:1
 returns-2 : tie.Need-returns-2 Inv-loop μ-loop
 returns-2 c = search needs
 

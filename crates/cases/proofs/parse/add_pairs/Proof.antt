@@ -1,14 +1,10 @@
+-- `add_pairs` is safe and ends. The buffer keeps its length; the measure is what is left of the line.
 use mathlib.Core.Path.{_≡_}
 use Prim.Native.Nat.{_-_}
 use lib.ListN.{length}
-use native.Mathlib.Omega.{arith}
 use borrow.Author.Needs.{needs}
 use Rattle.cases.proofs.parse.add_pairs.Statement.{statement}
 use Rattle.cases.proofs.parse.add_pairs.Tie as tie
-use Rattle.cases.proofs.parse.add_pairs.Reads as reads
-use Rattle.cases.proofs.parse.add_pairs.Lts as lts
-use Rattle.cases.proofs.parse.octet.Reads as octet-reads
-use Rattle.cases.proofs.parse.skip_spaces.Reads as skip-spaces-reads
 
 abbrev Inv-loop : tie.InvT-loop
 Inv-loop line from out₀ used to₀ i₀ out to i = length out ≡ length out₀
@@ -16,91 +12,69 @@ Inv-loop line from out₀ used to₀ i₀ out to i = length out ≡ length out�
 abbrev μ-loop : tie.MeasureT-loop
 μ-loop line from out₀ used to₀ i₀ out to i = length line - i
 
--- src/parse.rt:141:9
 skip-spaces-requires : tie.Need-skip-spaces-requires Inv-loop μ-loop
 skip-spaces-requires c κs = search needs
 
--- src/parse.rt:142:5
 loop-holds : tie.Need-loop-holds Inv-loop μ-loop
 loop-holds c = search needs
 
--- src/parse.rt:143:12
 sub-if1 : tie.Need-sub-if1 Inv-loop μ-loop
 sub-if1 c = search needs
 
--- src/parse.rt:144:13
 same-length : tie.Need-same-length Inv-loop μ-loop
 same-length c = search needs
 
--- src/parse.rt:144:13
 returns : tie.Need-returns Inv-loop μ-loop
 returns c = search needs
 
--- src/parse.rt:146:26
 shared-slice-read-octet : tie.Need-shared-slice-read-octet Inv-loop μ-loop
 shared-slice-read-octet c = search needs
 
--- src/parse.rt:146:40
 add-octet : tie.Need-add-octet Inv-loop μ-loop
 add-octet c = search needs
 
--- src/parse.rt:146:35
 shared-slice-read-octet-2 : tie.Need-shared-slice-read-octet-2 Inv-loop μ-loop
 shared-slice-read-octet-2 c = search needs
 
--- src/parse.rt:146:13
 octet-requires : tie.Need-octet-requires Inv-loop μ-loop
 octet-requires c κs = search needs
 
--- src/parse.rt:148:13
 same-length-2 : tie.Need-same-length-2 Inv-loop μ-loop
 same-length-2 c = search needs
 
--- src/parse.rt:148:13
 returns-2 : tie.Need-returns-2 Inv-loop μ-loop
 returns-2 c = search needs
 
--- src/parse.rt:151:13
 same-length-3 : tie.Need-same-length-3 Inv-loop μ-loop
 same-length-3 c = search needs
 
--- src/parse.rt:151:13
 returns-3 : tie.Need-returns-3 Inv-loop μ-loop
 returns-3 c = search needs
 
--- src/parse.rt:153:19
 cast-out : tie.Need-cast-out Inv-loop μ-loop
 cast-out c = search needs
 
--- src/parse.rt:153:9
 slice-write-out : tie.Need-slice-write-out Inv-loop μ-loop
 slice-write-out c = search needs
 
--- src/parse.rt:154:9
 add-to : tie.Need-add-to Inv-loop μ-loop
 add-to c = search needs
 
--- src/parse.rt:155:31
 add-skip-spaces : tie.Need-add-skip-spaces Inv-loop μ-loop
 add-skip-spaces c = search needs
 
--- src/parse.rt:155:9
 skip-spaces-requires-2 : tie.Need-skip-spaces-requires-2 Inv-loop μ-loop
 skip-spaces-requires-2 c κs = search needs
 
--- src/parse.rt:142:5
 loop-less : tie.Need-loop-less Inv-loop μ-loop
 loop-less c = search needs
 
--- src/parse.rt:142:5
 loop-again : tie.Need-loop-again Inv-loop μ-loop
 loop-again c = search needs
 
--- src/parse.rt:139:1
 same-length-4 : tie.Need-same-length-4 Inv-loop μ-loop
 same-length-4 c = search needs
 
--- src/parse.rt:139:1
 returns-4 : tie.Need-returns-4 Inv-loop μ-loop
 returns-4 c = search needs
 

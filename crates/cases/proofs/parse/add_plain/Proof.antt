@@ -1,12 +1,10 @@
+-- `add_plain` is safe and ends. The buffer keeps its length; the measure is what is left of the bytes.
 use mathlib.Core.Path.{_≡_}
 use Prim.Native.Nat.{_-_}
 use lib.ListN.{length}
-use native.Mathlib.Omega.{arith}
 use borrow.Author.Needs.{needs}
 use Rattle.cases.proofs.parse.add_plain.Statement.{statement}
 use Rattle.cases.proofs.parse.add_plain.Tie as tie
-use Rattle.cases.proofs.parse.add_plain.Reads as reads
-use Rattle.cases.proofs.parse.add_plain.Lts as lts
 
 abbrev Inv-loop : tie.InvT-loop
 Inv-loop bytes from out₀ used to₀ i₀ out to i = length out ≡ length out₀
@@ -14,47 +12,36 @@ Inv-loop bytes from out₀ used to₀ i₀ out to i = length out ≡ length out�
 abbrev μ-loop : tie.MeasureT-loop
 μ-loop bytes from out₀ used to₀ i₀ out to i = length bytes - i
 
--- src/parse.rt:178:5
 loop-holds : tie.Need-loop-holds Inv-loop μ-loop
 loop-holds c = search needs
 
--- src/parse.rt:180:13
 same-length : tie.Need-same-length Inv-loop μ-loop
 same-length c = search needs
 
--- src/parse.rt:180:13
 returns : tie.Need-returns Inv-loop μ-loop
 returns c = search needs
 
--- src/parse.rt:182:19
 shared-slice-read-out : tie.Need-shared-slice-read-out Inv-loop μ-loop
 shared-slice-read-out c = search needs
 
--- src/parse.rt:182:9
 slice-write-out : tie.Need-slice-write-out Inv-loop μ-loop
 slice-write-out c = search needs
 
--- src/parse.rt:183:9
 add-to : tie.Need-add-to Inv-loop μ-loop
 add-to c = search needs
 
--- src/parse.rt:184:9
 add-i : tie.Need-add-i Inv-loop μ-loop
 add-i c = search needs
 
--- src/parse.rt:178:5
 loop-less : tie.Need-loop-less Inv-loop μ-loop
 loop-less c = search needs
 
--- src/parse.rt:178:5
 loop-again : tie.Need-loop-again Inv-loop μ-loop
 loop-again c = search needs
 
--- src/parse.rt:175:1
 same-length-2 : tie.Need-same-length-2 Inv-loop μ-loop
 same-length-2 c = search needs
 
--- src/parse.rt:175:1
 returns-2 : tie.Need-returns-2 Inv-loop μ-loop
 returns-2 c = search needs
 

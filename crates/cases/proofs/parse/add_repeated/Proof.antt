@@ -1,13 +1,9 @@
+-- `add_repeated` is safe and ends. The buffer keeps its length; the measure is how many times are left.
 use mathlib.Core.Path.{_≡_}
 use lib.ListN.{length}
-use native.Mathlib.Omega.{arith}
 use borrow.Author.Needs.{needs}
 use Rattle.cases.proofs.parse.add_repeated.Statement.{statement}
 use Rattle.cases.proofs.parse.add_repeated.Tie as tie
-use Rattle.cases.proofs.parse.add_repeated.Reads as reads
-use Rattle.cases.proofs.parse.add_repeated.Lts as lts
-use Rattle.cases.proofs.parse.add_pairs.Reads as add-pairs-reads
-use Rattle.cases.proofs.parse.number_at.Reads as number-at-reads
 
 abbrev Inv-loop : tie.InvT-loop
 Inv-loop line from out₀ used value next to₀ left₀ out to left = length out ≡ length out₀
@@ -15,47 +11,36 @@ Inv-loop line from out₀ used value next to₀ left₀ out to left = length out
 abbrev μ-loop : tie.MeasureT-loop
 μ-loop line from out₀ used value next to₀ left₀ out to left = left
 
--- src/parse.rt:162:42
 number-at-requires : tie.Need-number-at-requires Inv-loop μ-loop
 number-at-requires c κs = search needs
 
--- src/parse.rt:162:26
 enum-known-value : tie.Need-enum-known-value Inv-loop μ-loop
 enum-known-value c = search needs
 
--- src/parse.rt:163:9
 enum-told : tie.Need-enum-told Inv-loop μ-loop
 enum-told c = search needs
 
--- src/parse.rt:163:9
 returns : tie.Need-returns Inv-loop μ-loop
 returns c = search needs
 
--- src/parse.rt:167:5
 loop-holds : tie.Need-loop-holds Inv-loop μ-loop
 loop-holds c = search needs
 
--- src/parse.rt:168:9
 add-pairs-requires : tie.Need-add-pairs-requires Inv-loop μ-loop
 add-pairs-requires c κs = search needs
 
--- src/parse.rt:169:9
 sub-left : tie.Need-sub-left Inv-loop μ-loop
 sub-left c = search needs
 
--- src/parse.rt:167:5
 loop-less : tie.Need-loop-less Inv-loop μ-loop
 loop-less c = search needs
 
--- src/parse.rt:167:5
 loop-again : tie.Need-loop-again Inv-loop μ-loop
 loop-again c = search needs
 
--- src/parse.rt:161:1
 same-length : tie.Need-same-length Inv-loop μ-loop
 same-length c = search needs
 
--- src/parse.rt:161:1
 returns-2 : tie.Need-returns-2 Inv-loop μ-loop
 returns-2 c = search needs
 

@@ -1,11 +1,9 @@
+-- `line_end` is safe and ends. The place that is looked at lies within the lines.
 use Prim.Native.Nat.{_≤_, _-_}
 use lib.ListN.{length}
-use native.Mathlib.Omega.{arith}
 use borrow.Author.Needs.{needs}
 use Rattle.cases.proofs.parse.line_end.Statement.{statement}
 use Rattle.cases.proofs.parse.line_end.Tie as tie
-use Rattle.cases.proofs.parse.line_end.Reads as reads
-use Rattle.cases.proofs.parse.line_end.Lts as lts
 
 abbrev Inv-loop : tie.InvT-loop
 Inv-loop lines from i₀ i = (from ≤ i) × (i ≤ length lines)
@@ -13,31 +11,24 @@ Inv-loop lines from i₀ i = (from ≤ i) × (i ≤ length lines)
 abbrev μ-loop : tie.MeasureT-loop
 μ-loop lines from i₀ i = length lines - i
 
--- src/parse.rt:23:5
 loop-holds : tie.Need-loop-holds Inv-loop μ-loop
 loop-holds c = search needs
 
--- src/parse.rt:24:12
 shared-slice-read-if1 : tie.Need-shared-slice-read-if1 Inv-loop μ-loop
 shared-slice-read-if1 c = search needs
 
--- src/parse.rt:25:13
 returns : tie.Need-returns Inv-loop μ-loop
 returns c = search needs
 
--- src/parse.rt:27:9
 add-i : tie.Need-add-i Inv-loop μ-loop
 add-i c = search needs
 
--- src/parse.rt:23:5
 loop-less : tie.Need-loop-less Inv-loop μ-loop
 loop-less c = search needs
 
--- src/parse.rt:23:5
 loop-again : tie.Need-loop-again Inv-loop μ-loop
 loop-again c = search needs
 
--- src/parse.rt:18:1
 returns-2 : tie.Need-returns-2 Inv-loop μ-loop
 returns-2 c = search needs
 

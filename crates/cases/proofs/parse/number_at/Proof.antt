@@ -1,13 +1,9 @@
+-- `number_at` is safe and ends. The number stays within 32 bits; the measure is what is left of the line.
 use Prim.Native.Nat.{_≤_, _-_}
 use lib.ListN.{length}
-use native.Mathlib.Omega.{arith}
 use borrow.Author.Needs.{needs}
 use Rattle.cases.proofs.parse.number_at.Statement.{statement}
 use Rattle.cases.proofs.parse.number_at.Tie as tie
-use Rattle.cases.proofs.parse.number_at.Reads as reads
-use Rattle.cases.proofs.parse.number_at.Lts as lts
-use Rattle.cases.proofs.parse.digit.Reads as digit-reads
-use Rattle.cases.proofs.parse.skip_spaces.Reads as skip-spaces-reads
 
 abbrev Inv-loop : tie.InvT-loop
 Inv-loop line from first value₀ i₀ value i = value ≤ 4294967295
@@ -15,63 +11,48 @@ Inv-loop line from first value₀ i₀ value i = value ≤ 4294967295
 abbrev μ-loop : tie.MeasureT-loop
 μ-loop line from first value₀ i₀ value i = length line - i
 
--- src/parse.rt:73:9
 skip-spaces-requires : tie.Need-skip-spaces-requires Inv-loop μ-loop
 skip-spaces-requires c κs = search needs
 
--- src/parse.rt:76:5
 loop-holds : tie.Need-loop-holds Inv-loop μ-loop
 loop-holds c = search needs
 
--- src/parse.rt:77:23
 shared-slice-read-digit : tie.Need-shared-slice-read-digit Inv-loop μ-loop
 shared-slice-read-digit c = search needs
 
--- src/parse.rt:77:13
 digit-requires : tie.Need-digit-requires Inv-loop μ-loop
 digit-requires c κs = search needs
 
--- src/parse.rt:81:22
 mul-if2 : tie.Need-mul-if2 Inv-loop μ-loop
 mul-if2 c = search needs
 
--- src/parse.rt:81:22
 add-if2 : tie.Need-add-if2 Inv-loop μ-loop
 add-if2 c = search needs
 
--- src/parse.rt:82:13
 returns : tie.Need-returns Inv-loop μ-loop
 returns c = search needs
 
--- src/parse.rt:84:17
 mul-value : tie.Need-mul-value Inv-loop μ-loop
 mul-value c = search needs
 
--- src/parse.rt:84:17
 add-value : tie.Need-add-value Inv-loop μ-loop
 add-value c = search needs
 
--- src/parse.rt:85:9
 add-i : tie.Need-add-i Inv-loop μ-loop
 add-i c = search needs
 
--- src/parse.rt:76:5
 loop-less : tie.Need-loop-less Inv-loop μ-loop
 loop-less c = search needs
 
--- src/parse.rt:76:5
 loop-again : tie.Need-loop-again Inv-loop μ-loop
 loop-again c = search needs
 
--- src/parse.rt:88:9
 returns-2 : tie.Need-returns-2 Inv-loop μ-loop
 returns-2 c = search needs
 
--- src/parse.rt:91:16
 cast-t14 : tie.Need-cast-t14 Inv-loop μ-loop
 cast-t14 c = search needs
 
--- src/parse.rt:72:1
 returns-3 : tie.Need-returns-3 Inv-loop μ-loop
 returns-3 c = search needs
 

@@ -1,14 +1,10 @@
+-- `read_numbers` is safe and ends. At most sixteen numbers are read; the measure is how many may follow.
 use mathlib.Core.Path.{_≡_}
 use Prim.Native.Nat.{_≤_, _-_}
 use lib.ListN.{length}
-use native.Mathlib.Omega.{arith}
 use borrow.Author.Needs.{needs}
 use Rattle.cases.proofs.parse.read_numbers.Statement.{statement}
 use Rattle.cases.proofs.parse.read_numbers.Tie as tie
-use Rattle.cases.proofs.parse.read_numbers.Reads as reads
-use Rattle.cases.proofs.parse.read_numbers.Lts as lts
-use Rattle.cases.proofs.parse.is_over.Reads as is-over-reads
-use Rattle.cases.proofs.parse.number_at.Reads as number-at-reads
 
 abbrev Inv-loop : tie.InvT-loop
 Inv-loop line from values₀ at₀ count₀ values at count = count ≤ 16
@@ -16,51 +12,39 @@ Inv-loop line from values₀ at₀ count₀ values at count = count ≤ 16
 abbrev μ-loop : tie.MeasureT-loop
 μ-loop line from values₀ at₀ count₀ values at count = 16 - count
 
--- src/parse.rt:109:5
 loop-holds : tie.Need-loop-holds Inv-loop μ-loop
 loop-holds c = search needs
 
--- src/parse.rt:110:46
 number-at-requires : tie.Need-number-at-requires Inv-loop μ-loop
 number-at-requires c κs = search needs
 
--- src/parse.rt:110:30
 enum-known-value : tie.Need-enum-known-value Inv-loop μ-loop
 enum-known-value c = search needs
 
--- src/parse.rt:111:13
 enum-told : tie.Need-enum-told Inv-loop μ-loop
 enum-told c = search needs
 
--- src/parse.rt:113:9
 mul-values : tie.Need-mul-values Inv-loop μ-loop
 mul-values c = search needs
 
--- src/parse.rt:113:9
 element-write-values : tie.Need-element-write-values Inv-loop μ-loop
 element-write-values c = search needs
 
--- src/parse.rt:115:9
 add-count : tie.Need-add-count Inv-loop μ-loop
 add-count c = search needs
 
--- src/parse.rt:109:5
 loop-less : tie.Need-loop-less Inv-loop μ-loop
 loop-less c = search needs
 
--- src/parse.rt:109:5
 loop-again : tie.Need-loop-again Inv-loop μ-loop
 loop-again c = search needs
 
--- src/parse.rt:117:8
 is-over-requires : tie.Need-is-over-requires Inv-loop μ-loop
 is-over-requires c κs = search needs
 
--- src/parse.rt:118:9
 returns : tie.Need-returns Inv-loop μ-loop
 returns c = search needs
 
--- src/parse.rt:106:1
 returns-2 : tie.Need-returns-2 Inv-loop μ-loop
 returns-2 c = search needs
 
