@@ -162,6 +162,20 @@ impl Case {
         self.wrong = true;
         self
     }
+
+    // The buffers that the run is lent, no more than there are.
+    fn lend(mut self, numbers: usize, bytes: usize) -> Case {
+        if NUMBERS < numbers {
+            return self.misread();
+        }
+        if BYTES < bytes {
+            return self.misread();
+        }
+        self.lent = true;
+        self.numbers = numbers;
+        self.bytes = bytes;
+        self
+    }
 }
 
 // The case that a line with the word `case` begins.
@@ -309,10 +323,7 @@ fn take_pair(word: &[u8], mut case: Case, values: &[u32; 16]) -> Case {
         return case;
     }
     if same(word, b"buffers") {
-        case.lent = true;
-        case.numbers = wide(values[0]);
-        case.bytes = wide(values[1]);
-        return case;
+        return case.lend(wide(values[0]), wide(values[1]));
     }
     case.misread()
 }

@@ -18,8 +18,6 @@ mod parse; // parse.rt: what a line says
 mod report; // report.rt: the lines that say what differs
 mod running; // running.rt: the runs of a case
 
-use compare::BYTES;
-use compare::NUMBERS;
 use compare::blank_bytes;
 use compare::blank_numbers;
 use compare::same_state;
@@ -190,39 +188,33 @@ fn check_case(
     bytes: &[u8],
     case: Case,
 ) -> u64 {
-    let a = case.text;
-    let b = case.name;
-    let c = case.classes;
-    let d = case.records;
-    let e = case.payload;
-    if text.len() < a {
+    let text_size = case.text;
+    let name_size = case.name;
+    let class_size = case.classes;
+    let record_size = case.records;
+    let payload_size = case.payload;
+    if text.len() < text_size {
         return differs(site, b"the text can't be read");
     }
-    if name.len() < b {
+    if name.len() < name_size {
         return differs(site, b"the name can't be read");
     }
-    if classes.len() < c {
+    if classes.len() < class_size {
         return differs(site, b"the classes can't be read");
     }
-    if want.len() < d {
+    if want.len() < record_size {
         return differs(site, b"there are too many items");
     }
-    if bytes.len() < e {
+    if bytes.len() < payload_size {
         return differs(site, b"the payloads can't be read");
-    }
-    if NUMBERS < case.numbers {
-        return differs(site, b"the buffers are too large");
-    }
-    if BYTES < case.bytes {
-        return differs(site, b"the buffers are too large");
     }
     check_runs(
         site,
-        &text[..a],
-        &name[..b],
-        &classes[..c],
-        &want[..d],
-        &bytes[..e],
+        &text[..text_size],
+        &name[..name_size],
+        &classes[..class_size],
+        &want[..record_size],
+        &bytes[..payload_size],
         case,
     )
 }

@@ -252,19 +252,11 @@ fn pieces(
         }
         let size = size_at(want, first) as usize;
         let last = first + RECORD;
-        let run = Run {
-            st: st,
-            numbers: RECORD,
-            bytes: size,
-            refusal: 0,
-            offset: 0,
-            stop: stop_behind(last, want.len()),
-            first: first,
-            last: last,
-            from: from,
-            known: false,
-            after: st,
-        };
+        let mut run = Run::idle(st, RECORD, size, stop_behind(last, want.len()));
+        run.first = first;
+        run.last = last;
+        run.from = from;
+        run.known = false;
         let at = site.at_run((last / RECORD) as u64);
         let done = piece(at, text, name, classes, want, bytes, begin, run);
         st = done.state;

@@ -50,24 +50,6 @@ differs-requires-5 c κs = search needs
 returns-5 : tie.Need-returns-5
 returns-5 c = search needs
 
-slice-aggregate-differs-6 : tie.Need-slice-aggregate-differs-6
-slice-aggregate-differs-6 c = search needs
-
-differs-requires-6 : tie.Need-differs-requires-6
-differs-requires-6 c κs = search needs
-
-returns-6 : tie.Need-returns-6
-returns-6 c = search needs
-
-slice-aggregate-differs-7 : tie.Need-slice-aggregate-differs-7
-slice-aggregate-differs-7 c = search needs
-
-differs-requires-7 : tie.Need-differs-requires-7
-differs-requires-7 c κs = search needs
-
-returns-7 : tie.Need-returns-7
-returns-7 c = search needs
-
 slice-aggregate-check-runs : tie.Need-slice-aggregate-check-runs
 slice-aggregate-check-runs c = simp length-take (omega arith)
 
@@ -86,8 +68,8 @@ slice-aggregate-check-runs-5 c = simp length-take (omega arith)
 check-runs-requires : tie.Need-check-runs-requires
 check-runs-requires c κs = search needs
 
-returns-8 : tie.Need-returns-8
-returns-8 c = search needs
+returns-6 : tie.Need-returns-6
+returns-6 c = search needs
 
 pub check-case-spec : {M : Type 1} → statement M
 check-case-spec =
@@ -108,16 +90,10 @@ check-case-spec =
     slice-aggregate-differs-5
     differs-requires-5
     returns-5
-    slice-aggregate-differs-6
-    differs-requires-6
-    returns-6
-    slice-aggregate-differs-7
-    differs-requires-7
-    returns-7
     slice-aggregate-check-runs
     slice-aggregate-check-runs-2
     slice-aggregate-check-runs-3
     slice-aggregate-check-runs-4
     slice-aggregate-check-runs-5
     check-runs-requires
-    returns-8)
+    returns-6)

@@ -29,6 +29,9 @@ add-last c = search needs
 stop-behind-requires : tie.Need-stop-behind-requires Inv-loop μ-loop
 stop-behind-requires c κs = search needs
 
+idle-requires : tie.Need-idle-requires Inv-loop μ-loop
+idle-requires c κs = search needs
+
 at-run-requires : tie.Need-at-run-requires Inv-loop μ-loop
 at-run-requires c κs = search needs
 
@@ -65,6 +68,7 @@ pieces-spec =
     cast-size
     add-last
     stop-behind-requires
+    idle-requires
     at-run-requires
     piece-requires
     wrapping-add-u64-requires
