@@ -27,7 +27,7 @@ use Rattle.rules.specs.Keys.{Missing}
 use Rattle.rules.specs.Plain.{place-kinds}
 use Rattle.rules.specs.Ruling.{rule-numbers, rule-of, rule-list, does}
 use Rattle.rules.specs.Tabled.{table-size, Tabled}
-use Rattle.rules.specs.Acting.{Acts}
+use Rattle.rules.specs.Acting.{Acts, ReadsOn}
 use Rattle.rules.proofs.Keys.{missing}
 use Rattle.rules.proofs.Tabling.{select-tabled}
 
@@ -62,6 +62,14 @@ module _ (s name f : Bytes) (st : State) where
       by : ℕ → Token-turn
       by k = does s name f (rule-of k) st k (c .end) (c .word)
 
+-- the rules that read something, from the last to the first
+abbrev reading : List (ℕ × Unit {0})
+reading = map (λ (k : ℕ). (k, tt)) (18 ∷ 17 ∷ 16 ∷ 15 ∷ 14 ∷ 13 ∷ 12 ∷ 11 ∷ 10 ∷ 9 ∷ 8 ∷ 7 ∷ 6 ∷ 3 ∷ 2 ∷ 1 ∷ [])
+
+-- A number that is none of these, nor that of white space or of a line end, is no rule's.
+none-read : (s name f : Bytes) (st : State) (k e w n : ℕ) → Missing reading n → (n ≡ 4 → ⊥) → (n ≡ 5 → ⊥) → Missing (rule-list s name f st k e w) n
+none-read s name f st k e w n ((((((((((((((((u, m1), m2), m3), m6), m7), m8), m9), m10), m11), m12), m13), m14), m15), m16), m17), m18) four five = ((((((((((((((((((u, m1), m2), m3), four), five), m6), m7), m8), m9), m10), m11), m12), m13), m14), m15), m16), m17), m18)
+
 module _ {s name f : Bytes} {at : Place} {c : Choice} (h : Acts s name f at c) where
   -- the choice is one of the places, with a word of its table
   pub tabled : Tabled c
@@ -85,10 +93,16 @@ module _ {s name f : Bytes} {at : Place} {c : Choice} (h : Acts s name f at c) w
         (ap (λ (m : ℕ). does s name f m (at .st) (c .place) (c .end) (c .word)) (sym p ∙ q) ∙ sym (act-is s name f (at .st) c (tabled .place))) d
 
   -- and without a rule nothing is expected
-  pub without-rule : {n : ℕ} (t : Turned) → n ≡ rule-of (c .place) → Missing (rule-list s name f (at .st) (c .place) (c .end) (c .word)) n
+  without-rule : {n : ℕ} (t : Turned) → n ≡ rule-of (c .place) → Missing (rule-list s name f (at .st) (c .place) (c .end) (c .word)) n
       → Turns s name f (any s (at .st)) t → Turns s name f (act s name f (at .st) c) t
   without-rule {n} t q m d =
       by-rule q refl t (subst (λ (x : Token-turn). Turns s name f x t) (sym (missing n (rule-list s name f (at .st) (c .place) (c .end) (c .word)) (any s (at .st)) m)) d)
+
+  -- nor without one of those that read something
+  pub without-reading : {n : ℕ} (t : Turned) → n ≡ rule-of (c .place) → ReadsOn (c .place) → Missing reading n
+      → Turns s name f (any s (at .st)) t → Turns s name f (act s name f (at .st) c) t
+  without-reading {n} t q o m d =
+      without-rule t q (none-read s name f (at .st) (c .place) (c .end) (c .word) n m (λ e. o .no-white (sym q ∙ e)) (λ e. o .no-line-end (sym q ∙ e))) d
 
 -- ---- words of keyword operators
 

@@ -10,6 +10,7 @@ use Rattle.definition.specs.Blob as source
 use Rattle.definition.specs.declared.Choice.{Choice}
 use Rattle.described.specs.Standing.{Standing}
 use Rattle.described.specs.declared.Place.{Place}
+use Rattle.rules.specs.Ruling.{rule-of}
 use Rattle.blobs.specs.Contents.{header-of}
 use Rattle.blobs.specs.declared.Header.{Header}
 
@@ -20,6 +21,11 @@ pub record Acts (s name f : Bytes) (at : Place) (c : Choice) : Type 0 where
   pub chosen : c ≡ select s f (at .st .offset)
   pub accepted : class-check f ≡ 0
   pub named : length name ≤ 4096
+
+-- the rule of place k is neither that of white space nor that of a line end
+pub record ReadsOn (k : ℕ) : Type 0 where
+  pub no-white : rule-of k ≡ 4 → ⊥
+  pub no-line-end : rule-of k ≡ 5 → ⊥
 
 -- r is the definition's header h, and the name in it ends at e
 pub record Names (s : Bytes) (h : source.Header) (e : ℕ) (r : Header) : Type 0 where

@@ -1,10 +1,10 @@
 // What is done with a choice: the definition's fifty rules, and what happens where none of the places was chosen.
 //
 // Proved: `act` does what the definition's `act` does with the choice that `select` makes: it reads an item, its payload and
-// the state behind it, or goes on behind white space. The law behind it (in proofs/): the word of a choice is one of its
-// place's table (Tabling).
-// Assumed: nothing but what `act`'s `requires` says: a reader stands in a sound state of a legal text, between comments, and
-// the choice is `select`'s.
+// the state behind it. The law behind it (in proofs/): the word of a choice is one of its place's table (Tabling).
+// Assumed: nothing but what `act`'s `requires` says: a reader stands in a sound state of a legal text, between comments, the
+// choice is `select`'s, and its rule is neither that of white space nor that of a line end. Those two read nothing; who asks
+// for a choice passes them (crate `steps`), so that an item is handed on as it was made.
 pub mod table; // table.rt: the rule and the kind of each place
 pub mod plain; // plain.rt: tokens that their places and words decide
 pub mod readers; // readers.rt: what is read on from behind a choice
@@ -26,20 +26,16 @@ use crate::table::IDENTIFIER;
 use crate::table::KEYWORD_OPERATOR;
 use crate::table::LANGUAGE;
 use crate::table::LINE_COMMENT;
-use crate::table::LINE_END;
 use crate::table::LITERAL;
 use crate::table::NUMBER;
 use crate::table::OPERATOR;
 use crate::table::PLAIN;
 use crate::table::UNICODE_OPERATOR;
-use crate::table::WHITE;
 use crate::table::kind_of;
 use crate::table::rule_of;
 use definition::Choice;
 use described::Place;
-use described::Turned;
-use described::places::moved;
-use described::places::next_line;
+use described::Read;
 use described::tokens::error_here;
 use finishes::lexemes::capital_name;
 use finishes::lexemes::ident;
@@ -53,15 +49,16 @@ use finishes::operators::kw_op;
 use finishes::operators::op;
 ghost use Rattle.definition.specs.Token.{act};
 ghost use Rattle.described.specs.Described.{Turns};
-ghost use Rattle.rules.specs.Acting.{Acts};
+ghost use Rattle.described.specs.declared.Turned.the-variants.{Done};
+ghost use Rattle.rules.specs.Acting.{Acts, ReadsOn};
 
 // An unexpected character.
 const UNEXPECTED: u32 = 6;
 
-// What is done with a choice.
-pub fn act(text: &[u8], name: &[u8], classes: &[u8], at: Place, choice: Choice) -> Turned
-    requires { ⌜ Acts (now text) (now name) (now classes) at choice ⌝ }
-    ensures { λ r. ⌜ Turns (now (text .entry)) (now (name .entry)) (now (classes .entry)) (act (now (text .entry)) (now (name .entry)) (now (classes .entry)) (at .st) choice) r ⌝ }
+// What is read of a choice whose rule passes nothing.
+pub fn act(text: &[u8], name: &[u8], classes: &[u8], at: Place, choice: Choice) -> Read
+    requires { ⌜ Acts (now text) (now name) (now classes) at choice × ReadsOn (choice .place) ⌝ }
+    ensures { λ r. ⌜ Turns (now (text .entry)) (now (name .entry)) (now (classes .entry)) (act (now (text .entry)) (now (name .entry)) (now (classes .entry)) (at .st) choice) (Done r) ⌝ }
 {
     let st = at.st;
     let known = at.known;
@@ -69,24 +66,22 @@ pub fn act(text: &[u8], name: &[u8], classes: &[u8], at: Place, choice: Choice) 
     let e = choice.end;
     let rule = rule_of(k);
     match rule {
-        PLAIN => Turned::Done(plain(text, name, at, choice)),
-        FENCED => Turned::Done(fenced(text, name, at, e)),
-        LANGUAGE => Turned::Done(language(text, name, at, e)),
-        WHITE => Turned::Again(moved(at, e)),
-        LINE_END => Turned::Again(next_line(at, e)),
-        CHARACTER => Turned::Done(char_lit(text, name, at, e)),
-        KEYWORD_OPERATOR => Turned::Done(kw_op(text, name, at, e, choice.word)),
-        IDENTIFIER => Turned::Done(ident(text, name, at, e)),
-        CAPITAL_NAME => Turned::Done(capital_name(text, name, at, e)),
-        NUMBER => Turned::Done(number(text, name, at, e, kind_of(k))),
-        BYTE_NUMBER => Turned::Done(uint8(text, name, at, e)),
-        BAD_NUMBER => Turned::Done(bad_number(text, name, at, e)),
-        COMMENT => Turned::Done(comment_start(text, at, e)),
-        LINE_COMMENT => Turned::Done(slashes(text, at, e)),
-        LITERAL => Turned::Done(literal(text, name, classes, at, e)),
-        GREATER => Turned::Done(gt(text, name, at, e)),
-        OPERATOR => Turned::Done(op(text, name, at, e, kind_of(k))),
-        UNICODE_OPERATOR => Turned::Done(unicode_operator(text, name, at, e)),
-        _ => Turned::Done(error_here(text, name, st, known, UNEXPECTED)),
+        PLAIN => plain(text, name, at, choice),
+        FENCED => fenced(text, name, at, e),
+        LANGUAGE => language(text, name, at, e),
+        CHARACTER => char_lit(text, name, at, e),
+        KEYWORD_OPERATOR => kw_op(text, name, at, e, choice.word),
+        IDENTIFIER => ident(text, name, at, e),
+        CAPITAL_NAME => capital_name(text, name, at, e),
+        NUMBER => number(text, name, at, e, kind_of(k)),
+        BYTE_NUMBER => uint8(text, name, at, e),
+        BAD_NUMBER => bad_number(text, name, at, e),
+        COMMENT => comment_start(text, at, e),
+        LINE_COMMENT => slashes(text, at, e),
+        LITERAL => literal(text, name, classes, at, e),
+        GREATER => gt(text, name, at, e),
+        OPERATOR => op(text, name, at, e, kind_of(k)),
+        UNICODE_OPERATOR => unicode_operator(text, name, at, e),
+        _ => error_here(text, name, st, known, UNEXPECTED),
     }
 }

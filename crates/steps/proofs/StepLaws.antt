@@ -1,5 +1,5 @@
 -- A turn of `next-token`, its loop, and a step. Rests on the laws of progress and of sound states.
-use Prim.Native.Nat.{_-_, _≤_, _<_}
+use Prim.Native.Nat.{ℕ, _-_, _≤_, _<_}
 use native.Mathlib.Omega.{arith}
 use mathlib.Core.Path.{_≡_, refl, sym, subst, _∙_}
 use mathlib.Core.Bool.{Bool}
@@ -25,6 +25,7 @@ use Rattle.progress.proofs.Tokens.{token-falls, token-unroll}
 use Rattle.soundness.proofs.Steps.{token-turn-stands}
 use Rattle.described.specs.Described.{Describes, Known-at, Reads, Turns}
 use Rattle.described.specs.Standing.{Standing}
+use Rattle.described.specs.Places.{moved, next-line}
 use Rattle.described.specs.declared.Place.{Place}
 use Rattle.described.specs.declared.Payload.the-variants.{Part}
 use Rattle.described.specs.declared.Read.{Read}
@@ -33,6 +34,9 @@ use Rattle.described.specs.declared.Turned.the-variants.{Done, Again}
 use Rattle.described.proofs.Standing.{known-asked, known-kept}
 use Rattle.described.proofs.Turning.{turned-done, turned-again}
 use Rattle.comments.specs.Contracts.{ReadsAny}
+use Rattle.rules.specs.Ruling.{rule-of}
+use Rattle.rules.specs.Acting.{Acts}
+use Rattle.rules.proofs.RuleLaws.{chose, by-rule, moved-turns, line-turns}
 use Rattle.steps.specs.Ready.{eof, ReadsEach, Ready}
 use Rattle.steps.specs.White.{Between, Passes, Behind}
 use Rattle.steps.specs.declared.white.Passed.the-variants.{On}
@@ -127,6 +131,33 @@ module _ {s name f : Bytes} {ops symbols : List Bool} {first here : Place} (k : 
         },
         g .less,
       )
+
+-- ---- a choice that is acted on
+
+module _ {s name f : Bytes} {ops symbols : List Bool} {first here : Place} {c : Choice} (k : Reading s name f ops symbols first here)
+    (h : here .st .offset < length s) (q : c ≡ select s f (here .st .offset)) where
+  -- what is asked for it
+  pub acts : Acts s name f here c
+  acts = record {
+    standing = k .ready .standing;
+    between = k .ready .between;
+    before = h;
+    chosen = q;
+    accepted = k .ready .lent .classes;
+    named = k .ready .named;
+  }
+
+  -- what it reads is the whole
+  pub acted : (r : Read) → Turns s name f (act s name f (here .st) c) (Done r) → Reads s name f (next-token s name f (first .st)) r
+  acted r t = reading-ends k r (turn-acts s name f (here .st) c (Done r) h q t)
+
+  module _ {n : ℕ} (is : n ≡ rule-of (c .place)) where
+    -- behind white space, and behind a line end, the reader stands ready again
+    pub passed-white : {p : Place} → n ≡ 4 → p ≡ moved here (c .end) → Reading s name f ops symbols first p × (length s - p .st .offset < length s - here .st .offset)
+    passed-white {p} e d = reading-goes-on k p (turn-acts s name f (here .st) c (Again p) h q (by-rule acts is e (Again p) (moved-turns (chose acts is e refl) d)))
+
+    pub passed-line : {p : Place} → n ≡ 5 → p ≡ next-line here (c .end) → Reading s name f ops symbols first p × (length s - p .st .offset < length s - here .st .offset)
+    passed-line {p} e d = reading-goes-on k p (turn-acts s name f (here .st) c (Again p) h q (by-rule acts is e (Again p) (line-turns (chose acts is e refl) d)))
 
 -- ---- white space before a turn
 

@@ -12,14 +12,18 @@ use definition::Extra;
 use described::Payload;
 use described::Place;
 use described::Read;
-use described::Turned;
+use described::places::moved;
+use described::places::next_line;
 use described::tokens::ended;
 use described::tokens::token;
 use positions::pos_of;
 use rules::act;
+use rules::table::LINE_END;
+use rules::table::WHITE;
+use rules::table::rule_of;
 use select::select;
-ghost use Rattle.definition.specs.Token.{token-turn, next-token, step};
-ghost use Rattle.described.specs.Described.{Reads, Turns};
+ghost use Rattle.definition.specs.Token.{next-token, step};
+ghost use Rattle.described.specs.Described.{Reads};
 ghost use Rattle.described.specs.Standing.{Standing};
 ghost use Rattle.steps.specs.Ready.{eof, ReadsEach, Ready, Open};
 
@@ -46,28 +50,7 @@ fn end_of_text(text: &[u8], name: &[u8], at: Place) -> Read
     )
 }
 
-// One call of the source's `next_token`.
-pub fn token_turn(
-    text: &[u8],
-    name: &[u8],
-    classes: &[u8],
-    ops: &[bool; 128],
-    symbols: &[bool; 128],
-    at: Place,
-) -> Turned
-    requires { ⌜ Ready (now text) (now name) (now classes) (now ops) (now symbols) at ⌝ }
-    ensures { λ r. ⌜ Turns (now (text .entry)) (now (name .entry)) (now (classes .entry)) (token-turn (now (text .entry)) (now (name .entry)) (now (classes .entry)) (at .st)) r ⌝ }
-{
-    let st = at.st;
-    let i = st.offset as usize;
-    if text.len() <= i {
-        return Turned::Done(end_of_text(text, name, at));
-    }
-    let choice = select(text, classes, ops, symbols, i);
-    act(text, name, classes, at, choice)
-}
-
-// The source's `next_token`: the next item between comments.
+// The source's `next_token`: the next item between comments. White space and line ends are passed.
 pub fn next_token(
     text: &[u8],
     name: &[u8],
@@ -82,14 +65,22 @@ pub fn next_token(
     let mut from = at;
     loop {
         let here = behind_white(text, classes, from);
-        match token_turn(text, name, classes, ops, symbols, here) {
-            Turned::Done(r) => {
-                return r;
-            }
-            Turned::Again(next) => {
-                from = next;
-            }
+        let st = here.st;
+        let i = st.offset as usize;
+        if text.len() <= i {
+            return end_of_text(text, name, here);
         }
+        let choice = select(text, classes, ops, symbols, i);
+        let rule = rule_of(choice.place);
+        if rule == WHITE {
+            from = moved(here, choice.end);
+            continue;
+        }
+        if rule == LINE_END {
+            from = next_line(here, choice.end);
+            continue;
+        }
+        return act(text, name, classes, here, choice);
     }
 }
 
