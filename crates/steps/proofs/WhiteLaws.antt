@@ -32,12 +32,13 @@ use Rattle.steps.specs.White.{is-blank, Between, Passes}
 use Rattle.steps.specs.declared.white.Passed.the-variants.{On}
 use Rattle.steps.proofs.StepLaws.{turn-acts}
 
--- ---- blanks
+-- ---- blanks and line ends of ASCII
 
+-- LF and CR, which begin a line end
 abbrev is-line-end : ℕ → Bool
 is-line-end c = eqb c 10 || eqb c 13
 
--- they are characters of ASCII
+-- both are characters of ASCII
 small-blank : (c : ℕ) → is-blank c ≡ true → c < 0x80
 small-blank c =
     either (eqb c 32) (eqb c 9 || (eqb c 11 || eqb c 12)) (is 32 (omega arith))
@@ -49,11 +50,11 @@ small-blank c =
 small-line-end : (c : ℕ) → is-line-end c ≡ true → c < 0x80
 small-line-end c = either (eqb c 10) (eqb c 13) (λ t. let e = eqb-true c 10 t in omega (arith, e)) (λ t. let e = eqb-true c 13 t in omega (arith, e))
 
--- a line end is no blank
+-- no line end is a blank
 line-no-blank : (c : ℕ) → is-line-end c ≡ true → is-blank c ≡ false
 line-no-blank c = either (eqb c 10) (eqb c 13) (λ t. ap is-blank (eqb-true c 10 t)) (λ t. ap is-blank (eqb-true c 13 t))
 
--- and the white space of ASCII
+-- the white space of ASCII is its blanks
 ascii-white : (f : Bytes) (c : ℕ) → c < 0x80 → is-anywhite f c ≡ is-blank c
 unfolding is-anywhite
 ascii-white f c h =
@@ -110,7 +111,7 @@ module _ (s f : Bytes) (i : ℕ) where
 -- ---- what is passed
 
 module _ {s f : Bytes} {at : Place} (h : Between s f at) where
-  -- a choice that is none but a place's ends behind where the reader stands
+  -- what a place chooses ends behind where the reader stands
   chose : {k e : ℕ} → select s f (at .st .offset) ≡ record { place = k; end = e; word = 0 } → eqb k 0 ≡ false → Chose s at e
   chose {k} {e} q z =
       let fits = subst (Fits s (at .st .offset)) q (select-fits s (at .st .offset) f) in

@@ -1,7 +1,8 @@
 // A step of the lexer: the next item from a state, with the state behind it.
 //
 // Proved: `step` reads what the definition's `step` gives, and `next_token` what its `next-token` gives: item, payload and
-// state, and a column that is known behind it.
+// state, and a column that is known behind it. The laws behind it (in proofs/): at white space and line ends of ASCII a turn
+// goes on behind them (WhiteLaws), so that they can be passed before it.
 // Assumed: nothing but what each function's `requires` says: a reader stands in a sound state of a legal text and hasn't
 // ended, the class file is accepted, the tables of operator and of symbol characters are lent, and the name is short enough.
 pub mod white; // white.rt: white space and line ends before a turn

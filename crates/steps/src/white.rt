@@ -1,5 +1,10 @@
 // White space and line ends of ASCII, which are passed before a turn is taken: nearly half of all turns would read nothing
 // else, and a turn costs far more than a byte.
+//
+// Proved: from behind what is passed the definition's `next-token` gives the same item, and the reader stands there with a
+// column that is known.
+// Assumed: nothing but what each function's `requires` says: a reader stands in a sound state of a legal text, between
+// comments, and the class file is accepted.
 use definition::Match;
 use described::Place;
 use described::places::moved;
