@@ -2,13 +2,13 @@
 // order. A keyword or operator is found by its key, from its first byte, its last byte and its length: of the words of a
 // table with the same key, at most four, each is compared. The three constructors are compared one by one. A table is built
 // anew in each function that reads it, so the words stand in the arms of a `match`, where nothing is built but the word; the
-// places are small tables of bytes. Ten arms to a function, since the time to check a `match` grows much faster than its
-// arms. Proved: a look-up gives the place at which the definition's table has the lexeme, or says that it has it nowhere.
+// places are small tables of bytes. Five byte strings to a function, since the time to check it grows with their square.
+// Proved: a look-up gives the place at which the definition's table has the lexeme, or says that it has it nowhere.
 // Assumed: nothing but what each function's `requires` says.
 use crate::Word;
 ghost use mathlib.Core.Path.{_≡_};
 ghost use Prim.Native.Nat.{_≤_, _<_};
-ghost use mathlib.Core.List.{[]};
+ghost use mathlib.Core.List.{[], _∷_};
 ghost use lib.ListN.{getD};
 ghost use Rattle.definition.specs.Basics.{same};
 ghost use Rattle.definition.specs.Tables.{keywords, constructors, uoperators};
@@ -70,9 +70,30 @@ fn spells(id: &[u8], word: &[u8]) -> bool
     true
 }
 
-// Whether word k, of the words 0 to 9, is the lexeme.
+// Whether a lexeme is these two bytes.
+fn two(id: &[u8], a: u8, b: u8) -> bool
+    ensures { λ r. ⌜ r ≡ same (a ∷ b ∷ []) (now (id .entry)) ⌝ }
+{
+    spells(id, &[a, b])
+}
+
+// Whether a lexeme is these three bytes.
+fn three(id: &[u8], a: u8, b: u8, c: u8) -> bool
+    ensures { λ r. ⌜ r ≡ same (a ∷ b ∷ c ∷ []) (now (id .entry)) ⌝ }
+{
+    spells(id, &[a, b, c])
+}
+
+// Whether a lexeme is these four bytes.
+fn four(id: &[u8], a: u8, b: u8, c: u8, d: u8) -> bool
+    ensures { λ r. ⌜ r ≡ same (a ∷ b ∷ c ∷ d ∷ []) (now (id .entry)) ⌝ }
+{
+    spells(id, &[a, b, c, d])
+}
+
+// Whether word k, of the keywords 0 to 4, is the lexeme.
 fn from_0(id: &[u8], k: usize) -> bool
-    requires { ⌜ k < 10 ⌝ }
+    requires { ⌜ k < 5 ⌝ }
     ensures { λ r. ⌜ r ≡ same (getD words k []) (now (id .entry)) ⌝ }
 {
     match k {
@@ -81,6 +102,16 @@ fn from_0(id: &[u8], k: usize) -> bool
         2 => spells(id, b"and"),
         3 => spells(id, b"assert"),
         4 => spells(id, b"assume"),
+        _ => false,
+    }
+}
+
+// Whether word k, of the keywords 5 to 9, is the lexeme.
+fn from_5(id: &[u8], k: usize) -> bool
+    requires { ⌜ (5 ≤ k) × (k < 10) ⌝ }
+    ensures { λ r. ⌜ r ≡ same (getD words k []) (now (id .entry)) ⌝ }
+{
+    match k {
         5 => spells(id, b"begin"),
         6 => spells(id, b"by"),
         7 => spells(id, b"calc"),
@@ -90,9 +121,9 @@ fn from_0(id: &[u8], k: usize) -> bool
     }
 }
 
-// Whether word k, of the words 10 to 19, is the lexeme.
+// Whether word k, of the keywords 10 to 14, is the lexeme.
 fn from_10(id: &[u8], k: usize) -> bool
-    requires { ⌜ (10 ≤ k) × (k < 20) ⌝ }
+    requires { ⌜ (10 ≤ k) × (k < 15) ⌝ }
     ensures { λ r. ⌜ r ≡ same (getD words k []) (now (id .entry)) ⌝ }
 {
     match k {
@@ -101,6 +132,16 @@ fn from_10(id: &[u8], k: usize) -> bool
         12 => spells(id, b"else"),
         13 => spells(id, b"end"),
         14 => spells(id, b"ensures"),
+        _ => false,
+    }
+}
+
+// Whether word k, of the keywords 15 to 19, is the lexeme.
+fn from_15(id: &[u8], k: usize) -> bool
+    requires { ⌜ (15 ≤ k) × (k < 20) ⌝ }
+    ensures { λ r. ⌜ r ≡ same (getD words k []) (now (id .entry)) ⌝ }
+{
+    match k {
         15 => spells(id, b"exception"),
         16 => spells(id, b"exists"),
         17 => spells(id, b"false"),
@@ -110,9 +151,9 @@ fn from_10(id: &[u8], k: usize) -> bool
     }
 }
 
-// Whether word k, of the words 20 to 29, is the lexeme.
+// Whether word k, of the keywords 20 to 24, is the lexeme.
 fn from_20(id: &[u8], k: usize) -> bool
-    requires { ⌜ (20 ≤ k) × (k < 30) ⌝ }
+    requires { ⌜ (20 ≤ k) × (k < 25) ⌝ }
     ensures { λ r. ⌜ r ≡ same (getD words k []) (now (id .entry)) ⌝ }
 {
     match k {
@@ -121,6 +162,16 @@ fn from_20(id: &[u8], k: usize) -> bool
         22 => spells(id, b"function"),
         23 => spells(id, b"if"),
         24 => spells(id, b"in"),
+        _ => false,
+    }
+}
+
+// Whether word k, of the keywords 25 to 29, is the lexeme.
+fn from_25(id: &[u8], k: usize) -> bool
+    requires { ⌜ (25 ≤ k) × (k < 30) ⌝ }
+    ensures { λ r. ⌜ r ≡ same (getD words k []) (now (id .entry)) ⌝ }
+{
+    match k {
         25 => spells(id, b"include"),
         26 => spells(id, b"inline"),
         27 => spells(id, b"inline_for_extraction"),
@@ -130,9 +181,9 @@ fn from_20(id: &[u8], k: usize) -> bool
     }
 }
 
-// Whether word k, of the words 30 to 39, is the lexeme.
+// Whether word k, of the keywords 30 to 34, is the lexeme.
 fn from_30(id: &[u8], k: usize) -> bool
-    requires { ⌜ (30 ≤ k) × (k < 40) ⌝ }
+    requires { ⌜ (30 ≤ k) × (k < 35) ⌝ }
     ensures { λ r. ⌜ r ≡ same (getD words k []) (now (id .entry)) ⌝ }
 {
     match k {
@@ -141,6 +192,16 @@ fn from_30(id: &[u8], k: usize) -> bool
         32 => spells(id, b"logic"),
         33 => spells(id, b"match"),
         34 => spells(id, b"returns"),
+        _ => false,
+    }
+}
+
+// Whether word k, of the keywords 35 to 39, is the lexeme.
+fn from_35(id: &[u8], k: usize) -> bool
+    requires { ⌜ (35 ≤ k) × (k < 40) ⌝ }
+    ensures { λ r. ⌜ r ≡ same (getD words k []) (now (id .entry)) ⌝ }
+{
+    match k {
         35 => spells(id, b"as"),
         36 => spells(id, b"module"),
         37 => spells(id, b"new"),
@@ -150,9 +211,9 @@ fn from_30(id: &[u8], k: usize) -> bool
     }
 }
 
-// Whether word k, of the words 40 to 49, is the lexeme.
+// Whether word k, of the keywords 40 to 44, is the lexeme.
 fn from_40(id: &[u8], k: usize) -> bool
-    requires { ⌜ (40 ≤ k) × (k < 50) ⌝ }
+    requires { ⌜ (40 ≤ k) × (k < 45) ⌝ }
     ensures { λ r. ⌜ r ≡ same (getD words k []) (now (id .entry)) ⌝ }
 {
     match k {
@@ -161,6 +222,16 @@ fn from_40(id: &[u8], k: usize) -> bool
         42 => spells(id, b"opaque"),
         43 => spells(id, b"private"),
         44 => spells(id, b"quote"),
+        _ => false,
+    }
+}
+
+// Whether word k, of the keywords 45 to 49, is the lexeme.
+fn from_45(id: &[u8], k: usize) -> bool
+    requires { ⌜ (45 ≤ k) × (k < 50) ⌝ }
+    ensures { λ r. ⌜ r ≡ same (getD words k []) (now (id .entry)) ⌝ }
+{
+    match k {
         45 => spells(id, b"range_of"),
         46 => spells(id, b"rec"),
         47 => spells(id, b"reifiable"),
@@ -170,9 +241,9 @@ fn from_40(id: &[u8], k: usize) -> bool
     }
 }
 
-// Whether word k, of the words 50 to 59, is the lexeme.
+// Whether word k, of the keywords 50 to 54, is the lexeme.
 fn from_50(id: &[u8], k: usize) -> bool
-    requires { ⌜ (50 ≤ k) × (k < 60) ⌝ }
+    requires { ⌜ (50 ≤ k) × (k < 55) ⌝ }
     ensures { λ r. ⌜ r ≡ same (getD words k []) (now (id .entry)) ⌝ }
 {
     match k {
@@ -181,6 +252,16 @@ fn from_50(id: &[u8], k: usize) -> bool
         52 => spells(id, b"sub_effect"),
         53 => spells(id, b"synth"),
         54 => spells(id, b"then"),
+        _ => false,
+    }
+}
+
+// Whether word k, of the keywords 55 to 59, is the lexeme.
+fn from_55(id: &[u8], k: usize) -> bool
+    requires { ⌜ (55 ≤ k) × (k < 60) ⌝ }
+    ensures { λ r. ⌜ r ≡ same (getD words k []) (now (id .entry)) ⌝ }
+{
+    match k {
         55 => spells(id, b"total"),
         56 => spells(id, b"true"),
         57 => spells(id, b"try"),
@@ -190,9 +271,9 @@ fn from_50(id: &[u8], k: usize) -> bool
     }
 }
 
-// Whether word k, of the words 60 to 69, is the lexeme.
+// Whether word k, of the keywords 60 to 64, is the lexeme.
 fn from_60(id: &[u8], k: usize) -> bool
-    requires { ⌜ (60 ≤ k) × (k < 70) ⌝ }
+    requires { ⌜ (60 ≤ k) × (k < 65) ⌝ }
     ensures { λ r. ⌜ r ≡ same (getD words k []) (now (id .entry)) ⌝ }
 {
     match k {
@@ -201,110 +282,80 @@ fn from_60(id: &[u8], k: usize) -> bool
         62 => spells(id, b"when"),
         63 => spells(id, b"with"),
         64 => spells(id, b"_"),
-        65 => spells(id, b"\xCE\xB1"),
-        66 => spells(id, b"\xCE\xB2"),
-        67 => spells(id, b"\xCE\xB3"),
-        68 => spells(id, b"\xCE\xB4"),
-        69 => spells(id, b"\xCE\xB5"),
         _ => false,
     }
 }
 
-// Whether word k, of the words 70 to 79, is the lexeme.
-fn from_70(id: &[u8], k: usize) -> bool
-    requires { ⌜ (70 ≤ k) × (k < 80) ⌝ }
+// Whether word k, of the keywords that are Greek letters, 65 to 85, is the lexeme.
+fn greek(id: &[u8], k: usize) -> bool
+    requires { ⌜ (65 ≤ k) × (k < 86) ⌝ }
     ensures { λ r. ⌜ r ≡ same (getD words k []) (now (id .entry)) ⌝ }
 {
     match k {
-        70 => spells(id, b"\xCF\x86"),
-        71 => spells(id, b"\xCF\x87"),
-        72 => spells(id, b"\xCE\xB7"),
-        73 => spells(id, b"\xCE\xB9"),
-        74 => spells(id, b"\xCE\xBA"),
-        75 => spells(id, b"\xCE\xBC"),
-        76 => spells(id, b"\xCE\xBD"),
-        77 => spells(id, b"\xCF\x80"),
-        78 => spells(id, b"\xCE\xB8"),
-        79 => spells(id, b"\xCF\x81"),
+        65 => two(id, 0xCE, 0xB1),
+        66 => two(id, 0xCE, 0xB2),
+        67 => two(id, 0xCE, 0xB3),
+        68 => two(id, 0xCE, 0xB4),
+        69 => two(id, 0xCE, 0xB5),
+        70 => two(id, 0xCF, 0x86),
+        71 => two(id, 0xCF, 0x87),
+        72 => two(id, 0xCE, 0xB7),
+        73 => two(id, 0xCE, 0xB9),
+        74 => two(id, 0xCE, 0xBA),
+        75 => two(id, 0xCE, 0xBC),
+        76 => two(id, 0xCE, 0xBD),
+        77 => two(id, 0xCF, 0x80),
+        78 => two(id, 0xCE, 0xB8),
+        79 => two(id, 0xCF, 0x81),
+        80 => two(id, 0xCF, 0x83),
+        81 => two(id, 0xCF, 0x84),
+        82 => two(id, 0xCF, 0x88),
+        83 => two(id, 0xCF, 0x89),
+        84 => two(id, 0xCE, 0xBE),
+        85 => two(id, 0xCE, 0xB6),
         _ => false,
     }
 }
 
-// Whether word k, of the words 80 to 89, is the lexeme.
-fn from_80(id: &[u8], k: usize) -> bool
-    requires { ⌜ (80 ≤ k) × (k < 90) ⌝ }
+// Whether word k, of the constructors and operators, 86 to 118, is the lexeme.
+fn symbol(id: &[u8], k: usize) -> bool
+    requires { ⌜ (86 ≤ k) × (k < 119) ⌝ }
     ensures { λ r. ⌜ r ≡ same (getD words k []) (now (id .entry)) ⌝ }
 {
     match k {
-        80 => spells(id, b"\xCF\x83"),
-        81 => spells(id, b"\xCF\x84"),
-        82 => spells(id, b"\xCF\x88"),
-        83 => spells(id, b"\xCF\x89"),
-        84 => spells(id, b"\xCE\xBE"),
-        85 => spells(id, b"\xCE\xB6"),
-        86 => spells(id, b"\xE2\x84\x95"),
-        87 => spells(id, b"\xE2\x84\xA4"),
-        88 => spells(id, b"\xF0\x9D\x94\xB9"),
-        89 => spells(id, b"\xE2\x88\x80"),
-        _ => false,
-    }
-}
-
-// Whether word k, of the words 90 to 99, is the lexeme.
-fn from_90(id: &[u8], k: usize) -> bool
-    requires { ⌜ (90 ≤ k) × (k < 100) ⌝ }
-    ensures { λ r. ⌜ r ≡ same (getD words k []) (now (id .entry)) ⌝ }
-{
-    match k {
-        90 => spells(id, b"\xE2\x88\x83"),
-        91 => spells(id, b"\xE2\x8A\xA4"),
-        92 => spells(id, b"\xE2\x8A\xA5"),
-        93 => spells(id, b"\xE2\x9F\xB9"),
-        94 => spells(id, b"\xE2\x9F\xBA"),
-        95 => spells(id, b"\xE2\x86\x92"),
-        96 => spells(id, b"\xE2\x86\x90"),
-        97 => spells(id, b"\xE2\x9F\xB5"),
-        98 => spells(id, b"\xE2\x86\x9D"),
-        99 => spells(id, b"\xE2\x89\x94"),
-        _ => false,
-    }
-}
-
-// Whether word k, of the words 100 to 109, is the lexeme.
-fn from_100(id: &[u8], k: usize) -> bool
-    requires { ⌜ (100 ≤ k) × (k < 110) ⌝ }
-    ensures { λ r. ⌜ r ≡ same (getD words k []) (now (id .entry)) ⌝ }
-{
-    match k {
-        100 => spells(id, b"\xE2\x88\xA7"),
-        101 => spells(id, b"\xE2\x88\xA8"),
-        102 => spells(id, b"\xC2\xAC"),
-        103 => spells(id, b"\xE2\xB8\xAC"),
-        104 => spells(id, b"\xE2\x96\xB9"),
-        105 => spells(id, b"\xC3\xB7"),
-        106 => spells(id, b"\xE2\x80\x96"),
-        107 => spells(id, b"\xC3\x97"),
-        108 => spells(id, b"\xE2\x88\x97"),
-        109 => spells(id, b"\xE2\x87\x92"),
-        _ => false,
-    }
-}
-
-// Whether word k, of the words 110 to 118, is the lexeme.
-fn from_110(id: &[u8], k: usize) -> bool
-    requires { ⌜ (110 ≤ k) × (k < 119) ⌝ }
-    ensures { λ r. ⌜ r ≡ same (getD words k []) (now (id .entry)) ⌝ }
-{
-    match k {
-        110 => spells(id, b"\xE2\x89\xA5"),
-        111 => spells(id, b"\xE2\x89\xA4"),
-        112 => spells(id, b"\xE2\x89\xA0"),
-        113 => spells(id, b"\xE2\x89\xAA"),
-        114 => spells(id, b"\xE2\x97\x83"),
-        115 => spells(id, b"\xC2\xB1"),
-        116 => spells(id, b"\xE2\x88\x81"),
-        117 => spells(id, b"\xE2\x88\x82"),
-        118 => spells(id, b"\xE2\x88\x9A"),
+        86 => three(id, 0xE2, 0x84, 0x95),
+        87 => three(id, 0xE2, 0x84, 0xA4),
+        88 => four(id, 0xF0, 0x9D, 0x94, 0xB9),
+        89 => three(id, 0xE2, 0x88, 0x80),
+        90 => three(id, 0xE2, 0x88, 0x83),
+        91 => three(id, 0xE2, 0x8A, 0xA4),
+        92 => three(id, 0xE2, 0x8A, 0xA5),
+        93 => three(id, 0xE2, 0x9F, 0xB9),
+        94 => three(id, 0xE2, 0x9F, 0xBA),
+        95 => three(id, 0xE2, 0x86, 0x92),
+        96 => three(id, 0xE2, 0x86, 0x90),
+        97 => three(id, 0xE2, 0x9F, 0xB5),
+        98 => three(id, 0xE2, 0x86, 0x9D),
+        99 => three(id, 0xE2, 0x89, 0x94),
+        100 => three(id, 0xE2, 0x88, 0xA7),
+        101 => three(id, 0xE2, 0x88, 0xA8),
+        102 => two(id, 0xC2, 0xAC),
+        103 => three(id, 0xE2, 0xB8, 0xAC),
+        104 => three(id, 0xE2, 0x96, 0xB9),
+        105 => two(id, 0xC3, 0xB7),
+        106 => three(id, 0xE2, 0x80, 0x96),
+        107 => two(id, 0xC3, 0x97),
+        108 => three(id, 0xE2, 0x88, 0x97),
+        109 => three(id, 0xE2, 0x87, 0x92),
+        110 => three(id, 0xE2, 0x89, 0xA5),
+        111 => three(id, 0xE2, 0x89, 0xA4),
+        112 => three(id, 0xE2, 0x89, 0xA0),
+        113 => three(id, 0xE2, 0x89, 0xAA),
+        114 => three(id, 0xE2, 0x97, 0x83),
+        115 => two(id, 0xC2, 0xB1),
+        116 => three(id, 0xE2, 0x88, 0x81),
+        117 => three(id, 0xE2, 0x88, 0x82),
+        118 => three(id, 0xE2, 0x88, 0x9A),
         _ => false,
     }
 }
@@ -314,40 +365,49 @@ fn is_word(id: &[u8], k: usize) -> bool
     requires { ⌜ k < 119 ⌝ }
     ensures { λ r. ⌜ r ≡ same (getD words k []) (now (id .entry)) ⌝ }
 {
-    if k < 10 {
+    if k < 5 {
         return from_0(id, k);
     }
-    if k < 20 {
+    if k < 10 {
+        return from_5(id, k);
+    }
+    if k < 15 {
         return from_10(id, k);
     }
-    if k < 30 {
+    if k < 20 {
+        return from_15(id, k);
+    }
+    if k < 25 {
         return from_20(id, k);
     }
-    if k < 40 {
+    if k < 30 {
+        return from_25(id, k);
+    }
+    if k < 35 {
         return from_30(id, k);
     }
-    if k < 50 {
+    if k < 40 {
+        return from_35(id, k);
+    }
+    if k < 45 {
         return from_40(id, k);
     }
-    if k < 60 {
+    if k < 50 {
+        return from_45(id, k);
+    }
+    if k < 55 {
         return from_50(id, k);
     }
-    if k < 70 {
+    if k < 60 {
+        return from_55(id, k);
+    }
+    if k < 65 {
         return from_60(id, k);
     }
-    if k < 80 {
-        return from_70(id, k);
+    if k < 86 {
+        return greek(id, k);
     }
-    if k < 90 {
-        return from_80(id, k);
-    }
-    if k < 100 {
-        return from_90(id, k);
-    }
-    if k < 110 {
-        return from_100(id, k);
-    }
-    from_110(id, k)
+    symbol(id, k)
 }
 
 // Follows the words with the lexeme's key from `start` on, up to the end of a table.
