@@ -1,4 +1,4 @@
--- What is computed over the definition's tables: no keyword-operator word begins another, which bytes operator tokens begin with, and every
+-- What is computed over the definition's tables: no keyword-operator word begins another, which bytes early literals begin with, and every
 -- word fits its row. Rests on the laws of tables.
 use Prim.Native.Nat.{ℕ, _<_}
 use mathlib.Core.Path.{_≡_, refl, sym, ap, _∙_}
@@ -6,13 +6,11 @@ use mathlib.Core.Bool.{Bool, true, false}
 use mathlib.Core.List.{List, [], _∷_, map}
 use native.Mathlib.Omega.{arith}
 use lib.ListN.{length, getD}
-use Rattle.definition.specs.Basics.{ch, codes, mem-cp, if_then_else_}
 use Rattle.definition.specs.Utf8.{encode, encode-all}
 use Rattle.definition.specs.Chars.{count-up}
-use Rattle.definition.specs.Tables.{cps, early-literals, kw-op-rules, op-tokens, mixfix-rules}
-use Rattle.lemmas.proofs.Members.{keys-of}
-use Rattle.words.specs.Rows.{Row, numbered, only-rows, early-pair, tokens-at}
-use Rattle.words.proofs.RowLaws.{no-row, word-at, is-empty, is-short, all-begin, starts-other, touches}
+use Rattle.definition.specs.Tables.{cps, early-literals, kw-op-rules}
+use Rattle.words.specs.Rows.{Row, numbered, only-rows, early-pair}
+use Rattle.words.proofs.RowLaws.{no-row, word-at, is-empty, is-short, all-begin, touches}
 use Rattle.words.proofs.TableLaws.{all-short, same-each}
 
 -- the rows of the early literals, and of the keyword operators
@@ -76,32 +74,3 @@ all-full = refl
 -- and so of each.
 pub kw-full : (k : ℕ) → k < 9 → is-empty (word-at kw-ops k) ≡ false
 kw-full k h = same-each (λ k. is-empty (word-at kw-ops k)) (λ k. false) 9 false all-full k h
-
--- ---- the operator tokens by first byte
-
--- None of them is empty.
-pub tokens-full : only-rows (λ (r : Row). is-empty (r .1)) (numbered 0 op-tokens) ≡ []
-unfolding op-tokens cps encode-all encode
-tokens-full = refl
-
--- the bytes that they begin with, as the arms of the code's `match`, from the last to the first
-abbrev pub first-bytes : List (List ℕ)
-first-bytes = map (λ (b : ℕ). b ∷ []) (codes "~}|{ur]\\[?=<;:/.-,)(&%$#!")
-
--- Where a byte is none of these no operator token may stand: computed for each byte,
-all-others : map (λ b. if mem-cp b (keys-of first-bytes) then [] else tokens-at b) (count-up 0 256) ≡ map (λ b. []) (count-up 0 256)
-unfolding op-tokens cps encode-all encode count-up mem-cp
-all-others = refl
-
--- and so of each.
-pub tokens-none : (b : ℕ) → b < 256 → mem-cp b (keys-of first-bytes) ≡ false → tokens-at b ≡ []
-tokens-none b h n =
-    let all = same-each (λ b. if mem-cp b (keys-of first-bytes) then [] else tokens-at b) (λ b. []) 256 [] all-others b h in
-    rw n at all
-
--- ---- the mixfix words
-
--- They all begin with a point.
-pub mixfix-points : only-rows (λ (r : Row). starts-other (ch ".") (r .1)) (numbered 0 mixfix-rules) ≡ []
-unfolding mixfix-rules cps encode-all encode
-mixfix-points = refl

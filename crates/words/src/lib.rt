@@ -1,24 +1,9 @@
-// The four tables of words that `select` tries: early literals, keyword operators, operator tokens and mixfix words.
+// Two of the tables of words that `select` tries: early literals and keyword operators (operator tokens and mixfix words are in
+// the crate `operator_tokens`), and what is chosen of a word.
 //
 // Proved: each search answers what trying every word of the definition's table in turn gives, and each kind is the
 // definition's. That the constants below are the definition's words is computed from its tables.
 // Assumed: the table of operator characters where it is lent.
-pub mod tokens; // tokens.rt: the operator tokens by their first bytes, and the mixfix words
-
-use crate::tokens::at_bar;
-use crate::tokens::at_brace;
-use crate::tokens::at_bracket;
-use crate::tokens::at_colon;
-use crate::tokens::at_dollar;
-use crate::tokens::at_equals;
-use crate::tokens::at_less;
-use crate::tokens::at_minus;
-use crate::tokens::at_paren;
-use crate::tokens::at_point;
-use crate::tokens::at_question;
-use crate::tokens::at_tilde;
-use crate::tokens::mixfix;
-use crate::tokens::only_token;
 use definition::Choice;
 use definition::Match;
 use scan::bytes::byte_is;
@@ -30,7 +15,7 @@ ghost use lib.ListN.{length, getD};
 ghost use Rattle.definition.specs.Basics.{between, ch};
 ghost use Rattle.definition.specs.Chars.{ascii-table, op-char-cps, is-op-char};
 ghost use Rattle.definition.specs.Kinds.{kind};
-ghost use Rattle.definition.specs.Tables.{cps, early-literals, kw-op-rules, op-tokens, mixfix-rules};
+ghost use Rattle.definition.specs.Tables.{cps, early-literals, kw-op-rules};
 ghost use Rattle.definition.specs.Matchers.{_then_, match-lit, plus};
 ghost use Rattle.definition.specs.Select.{none-at, keep, try-words};
 ghost use Rattle.definition.specs.Token.{entry};
@@ -274,52 +259,4 @@ pub fn kw_op_kind(word: usize) -> u32
     ensures { λ r. ⌜ r ≡ kind (entry kw-op-rules word .2) ⌝ }
 {
     KW_OP_KINDS[word]
-}
-
-// The longest of the operator tokens at i: only those that begin with the byte there are tried.
-pub fn op_token(text: &[u8], i: usize) -> Choice
-    ensures { λ r. ⌜ r ≡ try-words i 36 (λ w. match-lit (now (text .entry)) w i) 0 op-tokens (none-at i) ⌝ }
-{
-    if text.len() <= i {
-        return nothing(i);
-    }
-    let first = text[i];
-    match first {
-        b'!' => only_token(text, i, b"!{", 39),
-        b'#' => only_token(text, i, b"#", 9),
-        b'$' => at_dollar(text, i),
-        b'%' => only_token(text, i, b"%[", 37),
-        b'&' => only_token(text, i, b"&", 11),
-        b'(' => at_paren(text, i),
-        b')' => only_token(text, i, b")", 14),
-        b',' => only_token(text, i, b",", 15),
-        b'-' => at_minus(text, i),
-        b'.' => at_point(text, i),
-        b'/' => only_token(text, i, b"/\\", 2),
-        b':' => at_colon(text, i),
-        b';' => only_token(text, i, b";", 35),
-        b'<' => at_less(text, i),
-        b'=' => at_equals(text, i),
-        b'?' => at_question(text, i),
-        b'[' => at_bracket(text, i),
-        b'\\' => only_token(text, i, b"\\/", 3),
-        b']' => only_token(text, i, b"]", 47),
-        b'r' => only_token(text, i, b"returns$", 38),
-        b'u' => only_token(text, i, b"u#", 10),
-        b'{' => at_brace(text, i),
-        b'|' => at_bar(text, i),
-        b'}' => only_token(text, i, b"}", 52),
-        b'~' => at_tilde(text, i),
-        _ => nothing(i),
-    }
-}
-
-// The longest of the mixfix words at i.
-pub fn mixfix_word(text: &[u8], i: usize) -> Choice
-    ensures { λ r. ⌜ r ≡ try-words i 50 (λ w. match-lit (now (text .entry)) w i) 0 mixfix-rules (none-at i) ⌝ }
-{
-    if byte_is(text, i, b'.') {
-        return mixfix(text, i);
-    }
-    nothing(i)
 }
