@@ -80,7 +80,7 @@ pub fn is_constructor_start(file: &[u8], c: u32) -> bool
 }
 
 // The ASCII part of `is_ident_char`.
-fn is_ascii_ident_char(c: u32) -> bool
+pub fn is_ascii_ident_char(c: u32) -> bool
     ensures { λ r. ⌜ r ≡ ascii-ident-char c ⌝ }
 {
     if between(b'a', b'z', c) {

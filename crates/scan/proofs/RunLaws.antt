@@ -12,10 +12,11 @@ use denote.Enum.Declared.{tagOf}
 use lib.Dec.{ltb, eqb}
 use lib.ListN.{length, getD, drop}
 use lib.Seq.{getD-drop}
+use borrow.Author.Tests.{lt-ltb}
 use Rattle.definition.specs.Basics.{Bytes, ch, between}
 use Rattle.definition.specs.Utf8.{encode, sequence-at}
 use Rattle.definition.specs.Text.{with-char, byte-has, star}
-use Rattle.definition.specs.Chars.{ascii-limit, ascii-table, in-table, op-char-cps, symbolchar-cps, is-op-char, is-symbolchar}
+use Rattle.definition.specs.Chars.{ascii-limit, ascii-table, in-table, op-char-cps, symbolchar-cps, is-op-char, is-symbolchar, is-ident-char}
 use Rattle.definition.specs.Matchers.{only, one, plus}
 use Rattle.definition.specs.Comment.{after}
 use Rattle.definition.specs.declared.Sequence.{Sequence}
@@ -24,6 +25,7 @@ use Rattle.definition.specs.declared.Sequence.the-variants.{Char, Bad, End}
 use Rattle.definition.specs.declared.Match.{Match}
 use Rattle.definition.specs.declared.Match.the-variants.{To, Nothing}
 use Rattle.lemmas.proofs.Cases.{tests, by-outcome, by-lt}
+use Rattle.chars.specs.Parts.{ascii-ident-char}
 use Rattle.text.proofs.Reading.{read-end, No-char, with-none}
 use Rattle.text.proofs.Character.{char-read, char-within}
 use Rattle.text.proofs.Star.{star-on, star-stop, star-none, star-from}
@@ -184,3 +186,8 @@ after-char s i {c} {w} e = sym (ap (λ (t : Sequence). with-char t i (λ c j. j)
 pub after-none : (s : Bytes) (i : ℕ) {q : Sequence} → q ≡ sequence-at s i → OneOf (1 ∷ 2 ∷ []) (tagOf the-type q) → i ≡ after s i
 unfolding after
 after-none s i {q} e h = sym (with-none (sequence-at s i) i _ i (subst No-char e (no-char q h)))
+
+-- A character of ASCII may stand in an identifier by the first part of the test alone.
+pub ascii-ident : (f : Bytes) (c : ℕ) → c < 0x80 → is-ident-char f c ≡ ascii-ident-char c
+unfolding is-ident-char ascii-ident-char
+ascii-ident f c h = rw (is-ident-char, lt-ltb c ascii-limit h)

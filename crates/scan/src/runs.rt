@@ -3,6 +3,7 @@ use crate::bytes::byte_either;
 use ascii::is_op_char;
 use ascii::is_symbolchar;
 use chars::is_anywhite;
+use chars::is_ascii_ident_char;
 use chars::is_digit;
 use chars::is_hex;
 use chars::is_ident_char;
@@ -144,7 +145,7 @@ pub fn one_ident_char(text: &[u8], file: &[u8], i: usize) -> Match
         return Match::Nothing;
     }
     if text[i] < 0x80 {
-        if is_ident_char(file, text[i] as u32) {
+        if is_ascii_ident_char(text[i] as u32) {
             return Match::To(i + 1);
         }
         return Match::Nothing;
