@@ -19,7 +19,8 @@ use Rattle.definition.specs.Token.{Token-turn, entry, finish, finish-entry, fin
 use Rattle.definition.specs.declared.State.{State}
 use Rattle.definition.specs.declared.Extra.the-variants.{NoExtra}
 use Rattle.lemmas.proofs.Cases.{by-test}
-use Rattle.lookups.specs.Places.{spelled, place}
+use Rattle.spellings.specs.Words.{spelled}
+use Rattle.lookups.specs.Places.{place}
 use Rattle.lookups.specs.declared.Word.{Word}
 use Rattle.lookups.specs.declared.Word.the-variants.{At, Nowhere}
 use Rattle.lookups.proofs.Finds.{entry-at, found}

@@ -1,33 +1,22 @@
 -- Words that have another key than a lexeme are not the lexeme, so that they can be passed over. Rests on nothing but the definition.
 use Prim.Native.Nat.{ℕ, zero, suc, _+_, _-_, _≤_, _<_}
 use mathlib.Core.Path.{_≡_, refl, sym, ap, ap₂, _∙_}
-use mathlib.Core.Bool.{Bool, true, false, false≢true}
-use mathlib.Core.List.{List, [], _∷_, _++_, map}
+use mathlib.Core.Bool.{Bool, true, false, _&&_}
+use mathlib.Core.List.{List, [], _∷_}
 use native.Mathlib.Omega.{arith}
-use lib.Dec.{eqb}
+use lib.Dec.{eqb, leb}
 use native.Mathlib.Nat.{le-of-suc-le-suc, not-suc-le-zero, add-zero, zero-add}
 use lib.ListN.{length, getD, take, drop, length-drop}
 use lib.Seq.{drop-cons, take-nil, drop-nil, drop-drop, getD-drop}
-use borrow.Author.Tests.{eq-eqb, ne-eqb, eqb-true, eqb-false}
+use borrow.Author.Tests.{eqb-true, eqb-false, leb-true}
 use Rattle.definition.specs.Basics.{Bytes, same}
 use Rattle.definition.specs.Tables.{keywords, constructors, uoperators}
-use Rattle.lemmas.proofs.Cases.{by-bool, by-outcome}
+use Rattle.lemmas.proofs.Cases.{by-bool, by-outcome, both}
+use Rattle.spellings.specs.Words.{words}
+use Rattle.spellings.proofs.WordLaws.{same-equal}
 use Rattle.lookups.specs.declared.Word.{Word}
 use Rattle.lookups.specs.declared.Word.the-variants.{At, Nowhere}
-use Rattle.lookups.specs.Places.{place, words, key, hop, seek, Chain}
-
--- Two lists that are the same are equal.
-pub same-equal : (a b : Bytes) → same a b ≡ true → a ≡ b
-unfolding same
-same-equal [] [] e = refl
-same-equal [] (y ∷ b) e = absurd (false≢true e)
-same-equal (x ∷ a) [] e = absurd (false≢true e)
-same-equal (x ∷ a) (y ∷ b) e =
-    by-bool (λ t. t ≡ eqb x y → elim t as (λ _. Bool) [ true ↦ same a b | false ↦ false ] ≡ true → _≡_ {A = Bytes} (x ∷ a) (y ∷ b)) (eqb x y)
-    (λ q _ r. ap₂ (λ (z : ℕ) (l : Bytes). z ∷ l) (eqb-true x y q) (same-equal a b r))
-    (λ q _ r. absurd (false≢true r))
-    refl
-    e
+use Rattle.lookups.specs.Places.{place, key, hop, seek, Chain}
 
 -- A word with another key is not the lexeme.
 other-key : (w id : Bytes) → (key w ≡ key id → ⊥) → same w id ≡ false
@@ -160,6 +149,16 @@ next-later k = hop-grows (key (getD words k [])) (suc k) (drop (suc k) words)
 
 -- ---- the tables of places
 
+-- every number is at most b
+abbrev all-up-to : ℕ → List ℕ → Bool
+all-up-to b [] = true
+all-up-to b (x ∷ l) = leb x b && all-up-to b l
+
+pub up-to-at : (b : ℕ) (l : List ℕ) → all-up-to b l ≡ true → (k : ℕ) → getD l k 0 ≤ b
+up-to-at b [] e k = omega arith
+up-to-at b (x ∷ l) e zero = leb-true x b (both (leb x b) (all-up-to b l) e .0)
+up-to-at b (x ∷ l) e (suc k) = up-to-at b l (both (leb x b) (all-up-to b l) e .1) k
+
 -- behind each word, the next one with its key, the first word being numbered n
 unfoldable pub nexts : ℕ → List Bytes → List ℕ
 nexts n [] = []
@@ -194,6 +193,12 @@ firsts-at from n (suc m) (suc h) l =
 pub key-small : (w : Bytes) → key w < 64
 unfolding key
 key-small w = omega arith
+
+-- The key of nothing.
+pub key-empty : (s : Bytes) → length s ≡ 0 → 0 ≡ key s
+unfolding key
+key-empty [] e = refl
+key-empty (x ∷ s) e = absurd (omega arith)
 
 pub first-at : (from : ℕ) (id : Bytes) → getD (firsts from 0 64) (key id) 0 ≡ hop (key id) from (drop from words)
 first-at from id = firsts-at from 0 64 (key id) (key-small id) ∙ ap (λ (x : ℕ). hop x from (drop from words)) (zero-add (key id))

@@ -10,9 +10,10 @@ use Rattle.definition.specs.Basics.{Bytes, same}
 use Rattle.definition.specs.Tables.{Entry, cps, find}
 use Rattle.definition.specs.Token.{entry}
 use Rattle.lemmas.proofs.Cases.{by-outcome}
+use Rattle.spellings.specs.Words.{spelled}
 use Rattle.lookups.specs.declared.Word.{Word}
 use Rattle.lookups.specs.declared.Word.the-variants.{At, Nowhere}
-use Rattle.lookups.specs.Places.{spelled, place}
+use Rattle.lookups.specs.Places.{place}
 
 -- the entry at a place of a table whose first word is numbered n
 abbrev pub entry-at : ℕ → List Entry → Word → Option Entry

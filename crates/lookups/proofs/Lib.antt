@@ -1,4 +1,3 @@
 pub mod Prefix
 pub mod Chains
-pub mod Rows
 pub mod Finds

@@ -1,28 +1,19 @@
 -- Where a lexeme stands in a table of words, and the keys by which it is looked for.
 use Prim.Native.Nat.{ℕ, zero, suc, _+_, _-_, _%_, _≤_, _<_}
-use Prim.Native.String.{String}
 use mathlib.Core.Path.{_≡_}
 use mathlib.Core.Bool.{true, false}
-use mathlib.Core.List.{List, [], _∷_, _++_, map}
+use mathlib.Core.List.{List, [], _∷_}
 use lib.Dec.{eqb}
 use lib.ListN.{length, getD, take, drop}
 use Rattle.definition.specs.Basics.{Bytes, same}
-use Rattle.definition.specs.Tables.{Entry, cps, keywords, constructors, uoperators}
+use Rattle.spellings.specs.Words.{words}
 use Rattle.lookups.specs.declared.Word.{Word}
 use Rattle.lookups.specs.declared.Word.the-variants.{At, Nowhere}
-
--- the words of a table
-abbrev pub spelled : List Entry → List Bytes
-spelled table = map (λ e. cps (e .0)) table
 
 -- the number of the first word that is the lexeme, the first word being numbered n
 unfoldable pub place : ℕ → Bytes → List Bytes → Word
 place n id [] = Nowhere
 place n id (w ∷ ws) = elim (same w id) [ true ↦ At n | false ↦ place (suc n) id ws ]
-
--- the words of the three tables
-unfoldable pub words : List Bytes
-words = spelled (keywords ++ (constructors ++ uoperators))
 
 -- the key of a word
 unfoldable pub key : Bytes → ℕ

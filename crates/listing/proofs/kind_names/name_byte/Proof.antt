@@ -6,7 +6,8 @@ use Rattle.definition.specs.Utf8.{encode, encode-all}
 use Rattle.definition.specs.Tables.{cps}
 use Rattle.definition.specs.Kinds.{kind-names}
 use Rattle.listing.specs.Line.{names}
-use Rattle.entries.proofs.TextLaws.{starts, text-within, text-at}
+use Rattle.entries.specs.Entries.{starts}
+use Rattle.entries.proofs.TextLaws.{text-within, text-at}
 use native.Mathlib.Omega.{arith}
 use borrow.Author.Needs.{needs}
 use Rattle.listing.proofs.kind_names.name_byte.Statement.{statement}

@@ -1,9 +1,10 @@
 -- The code's lengths are those of the definition's names.
+use mathlib.Core.List.{[]}
+use lib.ListN.{length, List·getD-map}
 use Rattle.definition.specs.Utf8.{encode, encode-all}
 use Rattle.definition.specs.Tables.{cps}
 use Rattle.definition.specs.Kinds.{kind-names}
 use Rattle.listing.specs.Line.{names}
-use Rattle.entries.proofs.TextLaws.{length-at}
 use borrow.Author.Needs.{needs}
 use Rattle.listing.proofs.kind_names.name_length.Statement.{statement}
 use Rattle.listing.proofs.kind_names.name_length.Tie as tie
@@ -16,7 +17,7 @@ array-read-result c = search needs
 
 returns : tie.Need-returns
 unfolding names kind-names cps encode-all encode
-returns c = length-at names (c .args .k)
+returns c = List·getD-map length names (c .args .k) []
 
 pub name-length-spec : {M : Type 1} → statement M
 name-length-spec = tie.close (tie.spec mul-result array-read-result returns)

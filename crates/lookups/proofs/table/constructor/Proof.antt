@@ -3,7 +3,8 @@ use mathlib.Core.Path.{sym, _∙_}
 use Rattle.definition.specs.Utf8.{encode, encode-all}
 use Rattle.definition.specs.Tables.{cps, keywords, constructors, uoperators}
 use borrow.Author.Needs.{needs}
-use Rattle.lookups.specs.Places.{place, words}
+use Rattle.spellings.specs.Words.{words}
+use Rattle.lookups.specs.Places.{place}
 use Rattle.lookups.proofs.table.constructor.Statement.{statement}
 use Rattle.lookups.proofs.table.constructor.Tie as tie
 

@@ -6,9 +6,9 @@ use mathlib.Core.Path.{refl, sym, _∙_}
 use Rattle.definition.specs.Basics.{same}
 use Rattle.definition.specs.Utf8.{encode, encode-all}
 use Rattle.definition.specs.Tables.{cps, keywords, constructors, uoperators}
-use Rattle.lookups.specs.Places.{words, key, hop}
-use Rattle.lookups.proofs.Chains.{Seeking, nexts, next-at, next-later, seeking-starts, seeking-found, seeking-goes-on, seeking-ends}
-use Rattle.lookups.proofs.Rows.{up-to-at}
+use Rattle.spellings.specs.Words.{words}
+use Rattle.lookups.specs.Places.{key, hop}
+use Rattle.lookups.proofs.Chains.{up-to-at, Seeking, nexts, next-at, next-later, seeking-starts, seeking-found, seeking-goes-on, seeking-ends}
 use borrow.Author.Needs.{needs}
 use Rattle.lookups.proofs.table.follow.Statement.{statement}
 use Rattle.lookups.proofs.table.follow.Tie as tie

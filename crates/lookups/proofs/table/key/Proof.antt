@@ -5,7 +5,7 @@ use mathlib.Core.Path.{refl}
 use lib.ListN.{length}
 use borrow.Author.Needs.{needs}
 use Rattle.lookups.specs.Places.{key}
-use Rattle.lookups.proofs.Rows.{key-empty}
+use Rattle.lookups.proofs.Chains.{key-empty}
 use Rattle.lookups.proofs.table.key.Statement.{statement}
 use Rattle.lookups.proofs.table.key.Tie as tie
 

@@ -4,9 +4,9 @@ use Prim.Native.Nat.{_<_}
 use mathlib.Core.Path.{refl, _∙_}
 use Rattle.definition.specs.Utf8.{encode, encode-all}
 use Rattle.definition.specs.Tables.{cps, keywords, constructors, uoperators}
-use Rattle.lookups.specs.Places.{words, key, hop}
-use Rattle.lookups.proofs.Chains.{firsts, first-at, key-small, chain-begins, seek-table}
-use Rattle.lookups.proofs.Rows.{up-to-at}
+use Rattle.spellings.specs.Words.{words}
+use Rattle.lookups.specs.Places.{key, hop}
+use Rattle.lookups.proofs.Chains.{up-to-at, firsts, first-at, key-small, chain-begins, seek-table}
 use borrow.Author.Needs.{needs}
 use Rattle.lookups.proofs.table.uoperator.Statement.{statement}
 use Rattle.lookups.proofs.table.uoperator.Tie as tie
