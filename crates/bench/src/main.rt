@@ -113,7 +113,7 @@ fn checks(rounds: usize, text: &[u8]) -> usize {
     legal
 }
 
-// The number that a word's first digits say, as far as it is no more than a million.
+// The number that a word's first digits say; a million for one far above it.
 fn number(word: &[u8]) -> usize {
     let mut n: usize = 0;
     for i in 0..word.len() {

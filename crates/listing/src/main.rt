@@ -2,11 +2,11 @@
 // the number of what refuses the text. The class file is classes.bin in the working directory; a missing one counts as a
 // file of no bytes, which the class check refuses with 3. The name is `stdin`, the start 1:0.
 //
-// Proved: it ends; each run is the definition's (crate `lexer`), and what is handed over to be written for it are the
+// Proved: it ends; each run is the definition's (crate `lexer`), and what it leaves in the buffer to be written are the
 // definition's lines of its records, so that in all it is a line for each item (proofs/Whole.antt); the number behind END is
 // the count of all items, and REFUSED comes only where the first run is refused. What it writes for document 01's text is
 // compared with the file stdout. Assumed: what `libc` and `os` declare of reading and writing; a read that fails counts as
-// the end of what is read.
+// the end of what is read. No contract says what `main` hands over to be written.
 mod kind_names;
 mod line;
 

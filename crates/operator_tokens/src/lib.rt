@@ -1,4 +1,4 @@
-// The operator tokens and the mixfix words, searched at an offset: two of the tables of words that `select` tries.
+// The operator tokens and the mixfix words, searched at an offset: two of the definition's tables of words that `select` tries.
 //
 // Proved: each search answers what trying every word of the definition's table in turn gives. That the words in the code are the
 // definition's is computed from its tables, as is which bytes an operator token begins with (proofs/Computed.antt).

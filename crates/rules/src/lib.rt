@@ -1,4 +1,5 @@
-// What is done with a choice: the definition's fifty rules, and what happens where none of the places was chosen.
+// What is done with a choice: the definition's rules, but for those of white space and line ends, which read nothing, and what
+// happens where none of the places was chosen.
 //
 // Proved: `act` does what the definition's `act` does with the choice that `select` makes: it reads an item, its payload and
 // the state behind it. The law behind it (in proofs/): the word of a choice is one of its place's table (Tabling).

@@ -61,7 +61,8 @@ pub const OPERATOR: u32 = 17;
 // An operator beyond ASCII.
 pub const UNICODE_OPERATOR: u32 = 18;
 
-// The rule of a place. (Two arms have one answer where their places stand side by side: a range would take more tests.)
+// The rule of a place. Neighbouring places with one rule stand in two arms: in one arm they would become a range, which takes
+// more tests.
 pub fn rule_of(place: u32) -> u32
     requires { ⌜ place < 51 ⌝ }
     ensures { λ r. ⌜ r ≡ rule-of place ⌝ }
