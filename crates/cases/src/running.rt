@@ -21,6 +21,9 @@ use std::num::wrapping_add_u64;
 use std::num::wrapping_add_usize;
 ghost use Prim.Native.Nat.{_≤_};
 
+// The kind of the token at the text's end.
+const EOF: u32 = 165;
+
 // A run, and what it should answer: the state that it begins with, the numbers and bytes that it is lent, the refusal with its
 // offset, the stop; the wanted items that it should write, as the first and last number of their records and the first byte
 // of their payloads; and, where `known`, the state that it should hand back.
@@ -270,6 +273,34 @@ fn pieces(
     }
 }
 
+// What the last wanted item says of the state behind it. EOF and ERROR come last: the state is in their line, with their
+// comments and in no comment, and behind EOF at the text's end.
+fn told_at_end(site: Site, text: &[u8], want: &[u32], st: State) -> u64 {
+    if want.len() < RECORD {
+        return 0;
+    }
+    let last = want.len() - RECORD;
+    let comment = st.comment;
+    let mut n = same_number(site, b"line at the end", st.line, want[last + 4]);
+    n = wrapping_add_u64(
+        n,
+        same_number(site, b"comments at the end", st.comments, want[last + 8]),
+    );
+    n = wrapping_add_u64(n, same_number(site, b"depth at the end", st.depth, 0));
+    n = wrapping_add_u64(n, same_number(site, b"comment's line", comment.line, 0));
+    n = wrapping_add_u64(n, same_number(site, b"comment's column", comment.col, 0));
+    if want[last + 1] != EOF {
+        return n;
+    }
+    let end = same_count(
+        site,
+        b"offset at the end",
+        st.offset as u64,
+        text.len() as u64,
+    );
+    wrapping_add_u64(n, end)
+}
+
 // The split run: the wanted items one by one, and then none, in mode 2, with room and without.
 pub fn split(
     site: Site,
@@ -282,10 +313,9 @@ pub fn split(
 ) -> u64 {
     let done = pieces(site, text, name, classes, want, bytes, begin);
     let st = done.state;
-    let n = wrapping_add_u64(
-        done.differences,
-        same_number(site, b"mode at the end", st.mode, 2),
-    );
+    let ended = same_number(site, b"mode at the end", st.mode, 2);
+    let told = told_at_end(site, text, want, st);
+    let n = wrapping_add_u64(done.differences, wrapping_add_u64(ended, told));
     let roomy = Run::idle(st, NUMBERS, BYTES, 0);
     let one = run_once(site, text, name, classes, want, bytes, roomy);
     let none = Run::idle(st, 0, 0, 0);

@@ -17,14 +17,12 @@ use libc::STDOUT_FILENO;
 use line::lines_into;
 use state::start;
 ghost use mathlib.Core.Path.{_≡_};
+ghost use lib.Dec.{ltb};
 ghost use lib.ListN.{length};
 ghost use Rattle.io.specs.Counts.{Counts};
 ghost use Rattle.definition.specs.Tables.{cps};
 ghost use Rattle.definition.specs.Run.{run};
 ghost use Rattle.listing.specs.Rounds.{Lent, Begun, Rounded, Ends};
-
-// The longest text that is listed.
-const TEXT_LIMIT: usize = 60000;
 
 // Space for the records of 1,024 items.
 fn record_buffer() -> [u32; 16384]
@@ -143,9 +141,16 @@ fn say_ending(ending: Ending) {
     }
 }
 
+// Whether a text of so many bytes is too long to be listed.
+fn too_long(bytes: usize) -> bool
+    ensures { λ r. ⌜ r ≡ ltb 60000 bytes ⌝ }
+{
+    60000 < bytes
+}
+
 // The lines of a text under a class file.
 fn list(text: &[u8], classes: &[u8]) {
-    if TEXT_LIMIT < text.len() {
+    if too_long(text.len()) {
         say(b"REFUSED ", 6);
         return;
     }

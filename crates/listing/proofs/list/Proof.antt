@@ -1,11 +1,14 @@
 -- The text is short enough, the start isn't refused, and the buffers are as long as they are said to be.
-use mathlib.Core.Path.{sym, ap}
-use native.Mathlib.Omega.{arith}
+use mathlib.Core.Path.{sym, ap, _∙_}
+use borrow.Author.Tests.{ltb-false}
 use Rattle.definition.specs.State.{start}
 use Rattle.definition.specs.declared.StartAnswer.{StartAnswer}
 use borrow.Author.Needs.{needs}
 use Rattle.listing.proofs.list.Statement.{statement}
 use Rattle.listing.proofs.list.Tie as tie
+
+too-long-requires : tie.Need-too-long-requires
+too-long-requires c κs = search needs
 
 slice-aggregate-say : tie.Need-slice-aggregate-say
 slice-aggregate-say c = search needs
@@ -40,7 +43,7 @@ slice-aggregate-list-from-3 c = search needs
 list-from-requires : tie.Need-list-from-requires
 unfolding start
 list-from-requires c κs = (
-  record { short = omega (arith, c .before .before .before .before .before .before .before .before .if1 .left); is = ap (λ (a : StartAnswer). a .state) (c .before .before .before .before .before .before .before .start .ensures) },
+  record { short = ltb-false _ _ (sym (c .before .before .before .before .before .before .before .before .before .too-long .ensures) ∙ c .before .before .before .before .before .before .before .before .if1 .left); is = ap (λ (a : StartAnswer). a .state) (c .before .before .before .before .before .before .before .start .ensures) },
   record { records = sym (c .before .before .before .before .before .before .record-buffer .ensures); payload = sym (c .before .before .before .before .before .payload-buffer .ensures); lines = sym (c .before .before .before .before .line-buffer .ensures) },
 )
 
@@ -54,6 +57,7 @@ pub list-spec : {M : Type 1} → statement M
 list-spec =
     tie.close
     (tie.spec
+    too-long-requires
     slice-aggregate-say
     say-requires
     returns
