@@ -1,5 +1,1 @@
-pub mod Parts
 pub mod Spanning
-pub mod Entries
-pub mod Cleaning
-pub mod Cutting

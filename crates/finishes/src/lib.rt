@@ -1,10 +1,126 @@
-// What is done with a choice that is read whole: tokens up to its end, and the errors that it can be.
+// What is read of a choice that is read whole: a ruling is carried out, and a character is made.
 //
-// Proved: each function reads what the definition's rule gives (crates/definition/specs/Token.antt): item, payload and state.
-// No payload is copied: each is a part of the text, a `>` and a part, or a text of the tables.
-// Assumed: nothing but what each function's `requires` says: a reader stands in a sound state of a legal text, and the
-// choice ends behind it (`Chose`).
-pub mod tokens; // tokens.rt: a token up to an end, and an error over what was chosen
-pub mod lexemes; // lexemes.rt: tokens that their lexemes decide
-pub mod numbers; // numbers.rt: numbers and characters
-pub mod operators; // operators.rt: what a line comment may cut
+// Proved: each function reads what the definition gives (crates/definition/specs/Token.antt): item, payload and state. All
+// rulings are carried out by one `finish`: a token's positions are asked for in one place, whatever its rule.
+// Assumed: nothing but what each function's `requires` says: a reader stands in a sound state of a legal text, the choice
+// ends behind it (`Chose`), and the ruling fits the text (`Fits`).
+use comments::lines::line_comment;
+use definition::Extra;
+use described::Payload;
+use described::Place;
+use described::Read;
+use described::tokens::lex_error;
+use described::tokens::token;
+use escapes::unescape;
+use positions::pos_of;
+use rulings::Ruling;
+ghost use Rattle.definition.specs.Basics.{Bytes};
+ghost use Rattle.definition.specs.Position.{pos-of, cur-pos};
+ghost use Rattle.definition.specs.Item.{lex-error};
+ghost use Rattle.definition.specs.Token.{char-lit};
+ghost use Rattle.definition.specs.declared.Extra.the-variants.{NoExtra};
+ghost use Rattle.described.specs.Described.{Describes, Sized, Reads};
+ghost use Rattle.rulings.specs.Rulings.{spanned, Chose, Spans, ruling-step, Fits};
+ghost use Rattle.finishes.specs.Does.{Does};
+
+const CHAR: u32 = 167;
+
+// A token from byte i up to byte e, with the state behind it.
+fn finish_from(
+    text: &[u8],
+    name: &[u8],
+    at: Place,
+    i: usize,
+    e: usize,
+    kind: u32,
+    payload: Payload,
+) -> Read
+    requires { ⌜ Spans (now text) (now name) at i e payload ⌝ }
+    ensures { λ r. ⌜ ((f bytes : Bytes) → Describes (now (text .entry)) (now (name .entry)) f payload bytes → Reads (now (text .entry)) (now (name .entry)) f (spanned (now (text .entry)) (at .st) i e kind bytes NoExtra) r) ⌝ }
+{
+    let st = at.st;
+    let known = at.known;
+    let start = pos_of(text, st, known, i as u32);
+    let end = pos_of(text, st, start.known, e as u32);
+    let next = st.advance(e as u32);
+    token(
+        name,
+        kind,
+        payload,
+        start.pos,
+        end.pos,
+        Extra::NoExtra,
+        next,
+        end.known,
+    )
+}
+
+// An error over what was chosen, up to byte e.
+fn error_over(
+    text: &[u8],
+    name: &[u8],
+    at: Place,
+    e: usize,
+    number: u32,
+    payload: Payload,
+) -> Read
+    requires { ⌜ Chose (now text) at e × Sized (now name) payload ⌝ }
+    ensures { λ r. ⌜ ((f bytes : Bytes) → Describes (now (text .entry)) (now (name .entry)) f payload bytes → Reads (now (text .entry)) (now (name .entry)) f (lex-error (now (text .entry)) (at .st) number bytes (cur-pos (now (text .entry)) (at .st)) (pos-of (now (text .entry)) (at .st) e)) r) ⌝ }
+{
+    let st = at.st;
+    let known = at.known;
+    let start = pos_of(text, st, known, st.offset);
+    let end = pos_of(text, st, start.known, e as u32);
+    lex_error(
+        text,
+        name,
+        st,
+        end.known,
+        number,
+        payload,
+        start.pos,
+        end.pos,
+    )
+}
+
+// What is read by a ruling on a choice that ends at e.
+pub fn finish(text: &[u8], name: &[u8], at: Place, e: usize, ruling: Ruling) -> Read
+    requires { ⌜ Chose (now text) at e × Fits (now text) (now name) at ruling ⌝ }
+    ensures { λ r. ⌜ ((f : Bytes) → Reads (now (text .entry)) (now (name .entry)) f (ruling-step (now (text .entry)) (now (name .entry)) f (at .st) e ruling) r) ⌝ }
+{
+    let st = at.st;
+    match ruling {
+        Ruling::Token {
+            kind,
+            from,
+            end,
+            payload,
+        } => finish_from(text, name, at, from, end, kind, payload),
+        Ruling::Error { number, payload } => error_over(text, name, at, e, number, payload),
+        Ruling::LineComment => line_comment(text, st.offset as usize, at),
+    }
+}
+
+// A character, with its code point.
+pub fn char_lit(text: &[u8], name: &[u8], at: Place, e: usize) -> Read
+    requires { ⌜ Chose (now text) at e ⌝ }
+    ensures { λ r. ⌜ Does (now (text .entry)) (now (name .entry)) (char-lit (now (text .entry)) (at .st) e) r ⌝ }
+{
+    let st = at.st;
+    let known = at.known;
+    let start = pos_of(text, st, known, st.offset);
+    let end = pos_of(text, st, start.known, e as u32);
+    let next = st.advance(e as u32);
+    let nothing = Payload::Part { from: 0, to: 0 };
+    let c = unescape(text, st.offset as usize + 1);
+    token(
+        name,
+        CHAR,
+        nothing,
+        start.pos,
+        end.pos,
+        Extra::CharLit(c),
+        next,
+        end.known,
+    )
+}

@@ -1,0 +1,6 @@
+pub mod Parts
+pub mod Spanning
+pub mod RulingLaws
+pub mod Entries
+pub mod Cleaning
+pub mod Cutting

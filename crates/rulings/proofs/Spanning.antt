@@ -1,0 +1,49 @@
+-- What a token up to a choice's end asks for. Rests on the laws of where a reader stands.
+use Prim.Native.Nat.{ℕ, _≤_}
+use mathlib.Core.Path.{refl}
+use mathlib.Core.List.{[]}
+use native.Mathlib.Omega.{arith}
+use lib.ListN.{length}
+use Rattle.definition.specs.Basics.{Bytes}
+use Rattle.definition.specs.State.{advance}
+use Rattle.state.specs.Sound.{Stands}
+use Rattle.soundness.proofs.Moving.{walk-stands, stands-within}
+use Rattle.described.specs.Described.{Sized, Describes}
+use Rattle.described.specs.declared.Place.{Place}
+use Rattle.described.specs.declared.Payload.{Payload}
+use Rattle.described.specs.declared.Payload.the-variants.{Part}
+use Rattle.rulings.specs.Rulings.{Chose, Spans}
+
+-- nothing is described by the part from 0 to 0
+pub nothing-describes : (s name f : Bytes) → Describes s name f (Part 0 0) []
+nothing-describes s name f = record { is = refl; long = refl; inside = omega arith }
+
+pub nothing-sized : {name : Bytes} → Sized name (Part 0 0)
+nothing-sized = record { listed = tt; small = omega arith }
+
+module _ {s : Bytes} {at : Place} {e : ℕ} (h : Chose s at e) where
+  -- behind the choice reading stands
+  pub behind : Stands s (advance (at .st) e)
+  behind = walk-stands (h .standing .stands) (h .onward .walk)
+
+  -- on the same line
+  pub same-line : at .st .bol ≤ e
+  same-line = omega (arith, h .standing .stands .sound .order, h .onward .past)
+
+  -- a part of the text is not too long
+  pub part-sized : {name : Bytes} {i j : ℕ} → j ≤ length s → Sized name (Part i j)
+  part-sized l = record { listed = tt; small = omega (arith, h .standing .stands .short) }
+
+  -- a token may end wherever reading stands
+  pub spans-to : {name : Bytes} {j : ℕ} {p : Payload} → Stands s (advance (at .st) j) → Sized name p → Spans s name at (at .st .offset) j p
+  spans-to n z = record {
+    standing = h .standing;
+    from = h .standing .stands .sound .order;
+    within = stands-within (h .standing .stands);
+    next = n;
+    sized = z;
+  }
+
+  -- so at the choice's end
+  pub spans : {name : Bytes} {p : Payload} → Sized name p → Spans s name at (at .st .offset) e p
+  spans z = spans-to behind z
