@@ -30,7 +30,7 @@ asked-stands {s} {st} {known} {i} there h l q = rw q (record { stands = h .stand
 module _ {s : Bytes} {at : Place} {e : ℕ} (h : Chose s at e) where
   -- the positions of the choice's ends are asked for one behind the other
   pub end-asked : (start : Located) → start ≡ located s (at .st) (at .st .offset) → Asked one-each s (at .st) (start .known) e
-  end-asked start q = asks (asked-stands start (h .standing) (h .standing .stands .sound .order) q) e same-line h (h .onward .within)
+  end-asked start q = asks (asked-stands start (h .standing) (h .standing .stands .sound .order) q) e (same-line h) (h .onward .within)
 
   -- an error over the choice has them as its range
   pub over-reads : {name f bytes : Bytes} {number : ℕ} {r : Read} (start end : Located) → start ≡ located s (at .st) (at .st .offset) → end ≡ located s (at .st) e
