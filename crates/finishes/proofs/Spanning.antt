@@ -12,26 +12,16 @@ use Rattle.definition.specs.declared.State.{State}
 use Rattle.definition.specs.declared.Extra.{Extra}
 use Rattle.positions.specs.Columns.{Asked, located}
 use Rattle.positions.specs.declared.Located.{Located}
-use Rattle.positions.specs.declared.Cache.{Cache}
 use Rattle.soundness.proofs.Moving.{stands-within}
 use Rattle.described.specs.Described.{Known-at, Reads}
-use Rattle.described.specs.Standing.{Standing}
 use Rattle.described.specs.declared.Place.{Place}
 use Rattle.described.specs.declared.Payload.{Payload}
 use Rattle.described.specs.declared.Read.{Read}
 use Rattle.described.proofs.Standing.{asks, known-asked, known-kept, position-kept}
 use Rattle.rulings.specs.Rulings.{spanned, Chose, Spans}
-use Rattle.rulings.proofs.Spanning.{same-line}
-
--- a reader that asked for the position of an offset of its line stands where it stood
-pub asked-stands : {s : Bytes} {st : State} {known : Cache} {i : ℕ} (there : Located) → Standing s st known → st .bol ≤ i → there ≡ located s st i → Standing s st (there .known)
-asked-stands {s} {st} {known} {i} there h l q = rw q (record { stands = h .stands; cached = known-asked h i l })
+use Rattle.rulings.proofs.Spanning.{asked-stands}
 
 module _ {s : Bytes} {at : Place} {e : ℕ} (h : Chose s at e) where
-  -- the positions of the choice's ends are asked for one behind the other
-  pub end-asked : (start : Located) → start ≡ located s (at .st) (at .st .offset) → Asked one-each s (at .st) (start .known) e
-  end-asked start q = asks (asked-stands start (h .standing) (h .standing .stands .sound .order) q) e (same-line h) (h .onward .within)
-
   -- an error over the choice has them as its range
   pub over-reads : {name f bytes : Bytes} {number : ℕ} {r : Read} (start end : Located) → start ≡ located s (at .st) (at .st .offset) → end ≡ located s (at .st) e
       → Reads s name f (lex-error s (at .st) number bytes (start .pos) (end .pos)) r

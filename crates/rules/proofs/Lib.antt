@@ -2,4 +2,3 @@ pub mod Tabling
 pub mod Keys
 pub mod RuleLaws
 pub mod PlainLaws
-pub mod ReadOn

@@ -10,21 +10,19 @@ use Rattle.definition.specs.Text.{lexeme}
 use Rattle.definition.specs.Tables.{Entry, cps, keywords, constructors, uoperators, op-tokens, mixfix-rules}
 use Rattle.definition.specs.Numbers.{show}
 use Rattle.definition.specs.Token.{entry, finish}
-use Rattle.definition.specs.declared.State.{State}
 use Rattle.definition.specs.declared.Choice.{Choice}
-use Rattle.definition.specs.declared.Extra.the-variants.{NoExtra}
 use Rattle.entries.specs.Entries.{entries, texts}
 use Rattle.soundness.proofs.Moving.{stands-within}
 use Rattle.soundness.proofs.Sizes.{line-size}
-use Rattle.described.specs.Described.{Describes, Reads}
 use Rattle.described.specs.declared.Place.{Place}
-use Rattle.described.specs.declared.Read.{Read}
 use Rattle.described.specs.declared.Payload.{Payload}
 use Rattle.described.specs.declared.Payload.the-variants.{Part, Text, Name, Line, FileLine}
 use Rattle.described.proofs.Describing.{part-describes}
-use Rattle.finishes.specs.Finishing.{spanned, Chose, Does}
-use Rattle.finishes.proofs.Spanning.{part-sized, nothing-describes, nothing-sized}
-use Rattle.finishes.proofs.Entries.{text-sized, text-describes, entry-text, stored-entry, op-tokens-stored, mixfix-stored}
+use Rattle.rulings.specs.Rulings.{Chose, Rules}
+use Rattle.rulings.specs.declared.Ruling.the-variants.{Token}
+use Rattle.rulings.proofs.Spanning.{part-sized, nothing-describes, nothing-sized, spans}
+use Rattle.rulings.proofs.RulingLaws.{token-rules}
+use Rattle.rulings.proofs.Entries.{text-sized, text-describes, entry-text, stored-entry, op-tokens-stored, mixfix-stored}
 use Rattle.rules.specs.Keys.{Missing}
 use Rattle.rules.specs.Plain.{kind-of, table-kinds, plain-kind, plain-texts, plain-text, Gives}
 use Rattle.rules.specs.Tabled.{table-size, Tabled}
@@ -127,7 +125,6 @@ module _ {s : Bytes} (name : Bytes) {at : Place} {e : ℕ} (h : Chose s at e) (n
 
 -- ---- the token
 
-pub plain-does : (s name : Bytes) (st : State) (e : ℕ) (r : Read) {p : Payload} {k kd : ℕ} (bytes : Bytes) → k ≡ kd
-    → ((f bytes : Bytes) → Describes s name f p bytes → Reads s name f (spanned s st (st .offset) e k bytes NoExtra) r)
-    → Gives s name p bytes → Does s name (finish s st e kd bytes) r
-plain-does s name st e r bytes q build g f = rw (← q) (build f bytes (g .describes f))
+pub plain-rules : {s name : Bytes} {at : Place} {e : ℕ} {p : Payload} {k kd : ℕ} {bytes : Bytes} → Chose s at e → k ≡ kd → Gives s name p bytes
+    → Rules s name at e (finish s (at .st) e kd bytes) (Token k (at .st .offset) e p)
+plain-rules {s} {name} {at} {e} {p} {k} {kd} {bytes} h q g = token-rules bytes (g .describes) (spans h (g .sized)) (rw q refl)

@@ -1,13 +1,13 @@
 -- What is done with a choice is what its place's rule does, and what that asks for holds. Rests on the laws of choices and of sound
 -- states; that the table of rules is the definition's is computed.
-use Prim.Native.Nat.{ℕ, zero, suc, _+_, _-_, _<_}
+use Prim.Native.Nat.{ℕ, zero, suc, _+_, _-_, _≤_, _<_}
 use native.Mathlib.Omega.{arith}
 use mathlib.Core.Path.{_≡_, refl, sym, ap, subst, _∙_}
 use mathlib.Core.Bool.{Bool, true, false, not, _&&_, _||_, false≢true}
 use mathlib.Core.List.{List, [], _∷_, map}
-use lib.Dec.{eqb}
-use lib.ListN.{getD, List·getD-map}
-use borrow.Author.Tests.{eqb-true, eqb-false, eq-eqb, ne-eqb}
+use lib.Dec.{eqb, ltb}
+use lib.ListN.{length, getD, List·getD-map}
+use borrow.Author.Tests.{eqb-true, eqb-false, eq-eqb, ne-eqb, ltb-true}
 use Rattle.definition.specs.Basics.{Bytes}
 use Rattle.definition.specs.Chars.{count-up}
 use Rattle.definition.specs.State.{advance, new-line}
@@ -16,19 +16,22 @@ use Rattle.definition.specs.declared.Choice.{Choice}
 use Rattle.definition.specs.declared.State.{State}
 use Rattle.lemmas.proofs.Cases.{by-test, both, either}
 use Rattle.progress.proofs.Choices.{Fits, select-fits}
-use Rattle.described.specs.Described.{Known-at, Turns}
+use Rattle.described.specs.Described.{Known-at, Reads, Turns}
 use Rattle.described.specs.Places.{moved, next-line}
 use Rattle.described.specs.declared.Place.{Place}
+use Rattle.described.specs.declared.Read.{Read}
 use Rattle.described.specs.declared.Turned.{Turned}
+use Rattle.described.specs.declared.Turned.the-variants.{Done}
 use Rattle.described.proofs.Standing.{known-kept, known-line}
 use Rattle.soundness.proofs.Moving.{stands-within}
-use Rattle.finishes.specs.Finishing.{Chose}
+use Rattle.rulings.specs.Rulings.{Chose, Rules, ruling-step}
+use Rattle.rulings.specs.declared.Ruling.{Ruling}
+use Rattle.rulings.proofs.RulingLaws.{rules-same}
 use Rattle.rules.specs.Keys.{Missing}
 use Rattle.rules.specs.Plain.{place-kinds}
-use Rattle.rules.specs.Ruling.{rule-numbers, rule-of, rule-list, does}
+use Rattle.rules.specs.Ruling.{rule-numbers, rule-of, does}
 use Rattle.rules.specs.Tabled.{table-size, Tabled}
-use Rattle.rules.specs.Acting.{Acts, ReadsOn}
-use Rattle.rules.proofs.Keys.{missing}
+use Rattle.rules.specs.Acting.{Acts, ReadsOn, Short}
 use Rattle.rules.proofs.Tabling.{select-tabled}
 
 -- what counts up from n has n + k at k
@@ -62,13 +65,38 @@ module _ (s name f : Bytes) (st : State) where
       by : ℕ → Token-turn
       by k = does s name f (rule-of k) st k (c .end) (c .word)
 
--- the rules that read something, from the last to the first
-abbrev reading : List (ℕ × Unit {0})
-reading = map (λ (k : ℕ). (k, tt)) (18 ∷ 17 ∷ 16 ∷ 15 ∷ 14 ∷ 13 ∷ 12 ∷ 11 ∷ 10 ∷ 9 ∷ 8 ∷ 7 ∷ 6 ∷ 3 ∷ 2 ∷ 1 ∷ [])
+-- ---- rules that give rulings
 
--- A number that is none of these, nor that of white space or of a line end, is no rule's.
-none-read : (s name f : Bytes) (st : State) (k e w n : ℕ) → Missing reading n → (n ≡ 4 → ⊥) → (n ≡ 5 → ⊥) → Missing (rule-list s name f st k e w) n
-none-read s name f st k e w n ((((((((((((((((u, m1), m2), m3), m6), m7), m8), m9), m10), m11), m12), m13), m14), m15), m16), m17), m18) four five = ((((((((((((((((((u, m1), m2), m3), four), five), m6), m7), m8), m9), m10), m11), m12), m13), m14), m15), m16), m17), m18)
+-- every rule of a place is numbered below 19
+abbrev below : ℕ → List ℕ → Bool
+below m [] = true
+below m (x ∷ l) = ltb x m && below m l
+
+below-at : (m : ℕ) (l : List ℕ) → below m l ≡ true → 0 < m → (k : ℕ) → getD l k 0 < m
+below-at m [] t z k = z
+below-at m (x ∷ l) t z zero = ltb-true x m (both (ltb x m) (below m l) t .0)
+below-at m (x ∷ l) t z (suc k) = below-at m l (both (ltb x m) (below m l) t .1) z k
+
+-- the numbers, from the last arm to the first
+abbrev numbered : List ℕ → List (ℕ × Unit {0})
+numbered = map (λ (k : ℕ). (k, tt))
+
+-- what is none of the arms that read for themselves gives a ruling
+pub short-rule : {n k : ℕ} → n ≡ rule-of k → ReadsOn k → Missing (numbered (0 ∷ 15 ∷ 14 ∷ 13 ∷ 6 ∷ 3 ∷ 2 ∷ [])) n → Short n
+unfolding rule-numbers
+short-rule {n} {k} q o (((((((u, m2), m3), m6), m13), m14), m15), m0) = record {
+  listed = subst (λ (m : ℕ). m < 19) (sym q) (below-at 19 rule-numbers refl (omega arith) k);
+  short = (((((((((tt, m0), m2), m3), λ e. o .no-white (sym q ∙ e)), λ e. o .no-line-end (sym q ∙ e)), m6), m13), m14), m15);
+}
+
+-- and what is none of the other arms is the rule of operators
+pub operator-rule : {n : ℕ} → Short n → Missing (numbered (18 ∷ 16 ∷ 12 ∷ 11 ∷ 10 ∷ 9 ∷ 8 ∷ 7 ∷ 1 ∷ [])) n → n ≡ 17
+operator-rule {n} record { listed = l; short = (((((((((u, m0), m2), m3), m4), m5), m6), m13), m14), m15) } (((((((((v, m1), m7), m8), m9), m10), m11), m12), m16), m18) = omega arith
+
+-- a ruling by the number of a rule
+pub ruled-by : {s name : Bytes} {at : Place} {e : ℕ} {r : Ruling} (f : Bytes) (k w : ℕ) {n m : ℕ} → n ≡ m
+    → Rules s name at e (does s name f m (at .st) k e w) r → Rules s name at e (does s name f n (at .st) k e w) r
+ruled-by {s} {name} {at} {e} f k w q d = rules-same (ap (λ (m : ℕ). does s name f m (at .st) k e w) q) d
 
 module _ {s name f : Bytes} {at : Place} {c : Choice} (h : Acts s name f at c) where
   -- the choice is one of the places, with a word of its table
@@ -92,17 +120,12 @@ module _ {s name f : Bytes} {at : Place} {c : Choice} (h : Acts s name f at c) w
         subst (λ (x : Token-turn). Turns s name f x t)
         (ap (λ (m : ℕ). does s name f m (at .st) (c .place) (c .end) (c .word)) (sym p ∙ q) ∙ sym (act-is s name f (at .st) c (tabled .place))) d
 
-  -- and without a rule nothing is expected
-  without-rule : {n : ℕ} (t : Turned) → n ≡ rule-of (c .place) → Missing (rule-list s name f (at .st) (c .place) (c .end) (c .word)) n
-      → Turns s name f (any s (at .st)) t → Turns s name f (act s name f (at .st) c) t
-  without-rule {n} t q m d =
-      by-rule q refl t (subst (λ (x : Token-turn). Turns s name f x t) (sym (missing n (rule-list s name f (at .st) (c .place) (c .end) (c .word)) (any s (at .st)) m)) d)
-
-  -- nor without one of those that read something
-  pub without-reading : {n : ℕ} (t : Turned) → n ≡ rule-of (c .place) → ReadsOn (c .place) → Missing reading n
-      → Turns s name f (any s (at .st)) t → Turns s name f (act s name f (at .st) c) t
-  without-reading {n} t q o m d =
-      without-rule t q (none-read s name f (at .st) (c .place) (c .end) (c .word) n m (λ e. o .no-white (sym q ∙ e)) (λ e. o .no-line-end (sym q ∙ e))) d
+  -- a ruling that is carried out
+  pub carried-out : {n : ℕ} {x : Ruling} {r : Read} → n ≡ rule-of (c .place)
+      → ((name f : Bytes) → length name ≤ 4096 → Rules s name at (c .end) (does s name f n (at .st) (c .place) (c .end) (c .word)) x)
+      → ((f : Bytes) → Reads s name f (ruling-step s name f (at .st) (c .end) x) r) → Turns s name f (act s name f (at .st) c) (Done r)
+  carried-out {n} {x} {r} q ruled read =
+      by-rule q refl (Done r) (subst (λ (t : Token-turn). Turns s name f t (Done r)) (sym (ruled name f (h .named) .is f)) (read f))
 
 -- ---- words of keyword operators
 

@@ -2,17 +2,16 @@
 -- stands, c the choice.
 use Prim.Native.Nat.{ℕ, _≤_, _<_}
 use mathlib.Core.Path.{_≡_}
+use mathlib.Core.List.{[], _∷_, map}
 use lib.ListN.{length}
 use Rattle.definition.specs.Basics.{Bytes}
 use Rattle.definition.specs.ClassFile.{class-check}
 use Rattle.definition.specs.Select.{select}
-use Rattle.definition.specs.Blob as source
 use Rattle.definition.specs.declared.Choice.{Choice}
 use Rattle.described.specs.Standing.{Standing}
 use Rattle.described.specs.declared.Place.{Place}
+use Rattle.rules.specs.Keys.{Missing}
 use Rattle.rules.specs.Ruling.{rule-of}
-use Rattle.blobs.specs.Contents.{header-of}
-use Rattle.blobs.specs.declared.Header.{Header}
 
 pub record Acts (s name f : Bytes) (at : Place) (c : Choice) : Type 0 where
   pub standing : Standing s (at .st) (at .known)
@@ -27,7 +26,7 @@ pub record ReadsOn (k : ℕ) : Type 0 where
   pub no-white : rule-of k ≡ 4 → ⊥
   pub no-line-end : rule-of k ≡ 5 → ⊥
 
--- r is the definition's header h, and the name in it ends at e
-pub record Names (s : Bytes) (h : source.Header) (e : ℕ) (r : Header) : Type 0 where
-  pub is : header-of s r ≡ h
-  pub ends : r .to ≡ e
+-- n is the number of a rule that reads a choice whole, and reads it as a token, an error or a line's comment
+pub record Short (n : ℕ) : Type 0 where
+  pub listed : n < 19
+  pub short : Missing (map (λ (k : ℕ). (k, tt)) (15 ∷ 14 ∷ 13 ∷ 6 ∷ 5 ∷ 4 ∷ 3 ∷ 2 ∷ 0 ∷ [])) n

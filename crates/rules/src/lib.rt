@@ -2,20 +2,16 @@
 // happens where none of the places was chosen.
 //
 // Proved: `act` does what the definition's `act` does with the choice that `select` makes: it reads an item, its payload and
-// the state behind it. The law behind it (in proofs/): the word of a choice is one of its place's table (Tabling).
+// the state behind it. The law behind it (in proofs/): the word of a choice is one of its place's table (Tabling). Most
+// rules give a ruling, which is carried out in one place; those that read on from behind the choice, and characters, read
+// for themselves.
 // Assumed: nothing but what `act`'s `requires` says: a reader stands in a sound state of a legal text, between comments, the
 // choice is `select`'s, and its rule is neither that of white space nor that of a line end. Those two read nothing; who asks
 // for a choice passes them (crate `steps`), so that an item is handed on as it was made.
 pub mod table; // table.rt: the rule and the kind of each place
 pub mod plain; // plain.rt: tokens that their places and words decide
-pub mod readers; // readers.rt: what is read on from behind a choice
 
 use crate::plain::plain;
-use crate::readers::comment_start;
-use crate::readers::fenced;
-use crate::readers::language;
-use crate::readers::literal;
-use crate::readers::slashes;
 use crate::table::BAD_NUMBER;
 use crate::table::BYTE_NUMBER;
 use crate::table::CAPITAL_NAME;
@@ -28,8 +24,8 @@ use crate::table::KEYWORD_OPERATOR;
 use crate::table::LANGUAGE;
 use crate::table::LINE_COMMENT;
 use crate::table::LITERAL;
+use crate::table::NO_RULE;
 use crate::table::NUMBER;
-use crate::table::OPERATOR;
 use crate::table::PLAIN;
 use crate::table::UNICODE_OPERATOR;
 use crate::table::kind_of;
@@ -38,23 +34,58 @@ use definition::Choice;
 use described::Place;
 use described::Read;
 use described::tokens::error_here;
-use finishes::lexemes::capital_name;
-use finishes::lexemes::ident;
-use finishes::lexemes::unicode_operator;
-use finishes::numbers::bad_number;
-use finishes::numbers::char_lit;
-use finishes::numbers::number;
-use finishes::numbers::uint8;
-use finishes::operators::gt;
-use finishes::operators::kw_op;
-use finishes::operators::op;
+use finishes::char_lit;
+use finishes::finish;
+use readers::comment_start;
+use readers::fenced;
+use readers::language;
+use readers::literal;
+use readers::slashes;
+use rulings::Ruling;
+use rulings::lexemes::capital_name;
+use rulings::lexemes::ident;
+use rulings::lexemes::unicode_operator;
+use rulings::numbers::bad_number;
+use rulings::numbers::number;
+use rulings::numbers::uint8;
+use rulings::operators::gt;
+use rulings::operators::kw_op;
+use rulings::operators::op;
+ghost use mathlib.Core.Path.{_≡_};
+ghost use Prim.Native.Nat.{_≤_};
+ghost use lib.ListN.{length};
+ghost use Rattle.definition.specs.Basics.{Bytes};
 ghost use Rattle.definition.specs.Token.{act};
 ghost use Rattle.described.specs.Described.{Turns};
 ghost use Rattle.described.specs.declared.Turned.the-variants.{Done};
-ghost use Rattle.rules.specs.Acting.{Acts, ReadsOn};
+ghost use Rattle.rulings.specs.Rulings.{Chose, Rules};
+ghost use Rattle.rules.specs.Tabled.{Tabled};
+ghost use Rattle.rules.specs.Ruling.{rule-of, does};
+ghost use Rattle.rules.specs.Acting.{Acts, ReadsOn, Short};
 
 // An unexpected character.
 const UNEXPECTED: u32 = 6;
+
+// The ruling on a choice that is read whole.
+fn ruled(text: &[u8], at: Place, choice: Choice, rule: u32) -> Ruling
+    requires { ⌜ Chose (now text) at (choice .end) × Tabled choice × (rule ≡ rule-of (choice .place)) × Short rule ⌝ }
+    ensures { λ r. ⌜ ((name f : Bytes) → length name ≤ 4096 → Rules (now (text .entry)) name at (choice .end) (does (now (text .entry)) name f rule (at .st) (choice .place) (choice .end) (choice .word)) r) ⌝ }
+{
+    let k = choice.place;
+    let e = choice.end;
+    match rule {
+        PLAIN => plain(at, choice),
+        KEYWORD_OPERATOR => kw_op(text, at, e, choice.word),
+        IDENTIFIER => ident(text, at, e),
+        CAPITAL_NAME => capital_name(text, at, e),
+        NUMBER => number(text, at, e, kind_of(k)),
+        BYTE_NUMBER => uint8(text, at, e),
+        BAD_NUMBER => bad_number(at, e),
+        GREATER => gt(text, at, e),
+        UNICODE_OPERATOR => unicode_operator(text, at, e),
+        _ => op(text, at, e, kind_of(k)),
+    }
+}
 
 // What is read of a choice whose rule passes nothing.
 pub fn act(text: &[u8], name: &[u8], classes: &[u8], at: Place, choice: Choice) -> Read
@@ -63,26 +94,16 @@ pub fn act(text: &[u8], name: &[u8], classes: &[u8], at: Place, choice: Choice) 
 {
     let st = at.st;
     let known = at.known;
-    let k = choice.place;
     let e = choice.end;
-    let rule = rule_of(k);
+    let rule = rule_of(choice.place);
     match rule {
-        PLAIN => plain(text, name, at, choice),
         FENCED => fenced(text, name, at, e),
         LANGUAGE => language(text, name, at, e),
         CHARACTER => char_lit(text, name, at, e),
-        KEYWORD_OPERATOR => kw_op(text, name, at, e, choice.word),
-        IDENTIFIER => ident(text, name, at, e),
-        CAPITAL_NAME => capital_name(text, name, at, e),
-        NUMBER => number(text, name, at, e, kind_of(k)),
-        BYTE_NUMBER => uint8(text, name, at, e),
-        BAD_NUMBER => bad_number(text, name, at, e),
         COMMENT => comment_start(text, at, e),
         LINE_COMMENT => slashes(text, at, e),
         LITERAL => literal(text, name, classes, at, e),
-        GREATER => gt(text, name, at, e),
-        OPERATOR => op(text, name, at, e, kind_of(k)),
-        UNICODE_OPERATOR => unicode_operator(text, name, at, e),
-        _ => error_here(text, name, st, known, UNEXPECTED),
+        NO_RULE => error_here(text, name, st, known, UNEXPECTED),
+        _ => finish(text, name, at, e, ruled(text, at, choice, rule)),
     }
 }

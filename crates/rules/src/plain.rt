@@ -1,20 +1,18 @@
 // Tokens that their places and words decide: what they hold is told without a look at the text.
 use crate::table::kind_of;
 use definition::Choice;
-use definition::Extra;
 use described::Payload;
 use described::Place;
-use described::Read;
 use described::span;
 use entries::kind_at;
-use finishes::tokens::finish;
+use rulings::Ruling;
 use words::early_kind;
 ghost use mathlib.Core.Path.{_≡_};
 ghost use Prim.Native.Nat.{_≤_};
 ghost use lib.ListN.{length};
 ghost use Rattle.definition.specs.Basics.{Bytes};
 ghost use Rattle.definition.specs.Token.{finish};
-ghost use Rattle.finishes.specs.Finishing.{Chose, Does};
+ghost use Rattle.rulings.specs.Rulings.{Chose, Rules};
 ghost use Rattle.rules.specs.Plain.{plain-kind, plain-text, Gives};
 ghost use Rattle.rules.specs.Tabled.{Tabled};
 
@@ -68,11 +66,17 @@ fn plain_payload(at: Place, choice: Choice) -> Payload
 }
 
 // The token.
-pub fn plain(text: &[u8], name: &[u8], at: Place, choice: Choice) -> Read
-    requires { ⌜ Chose (now text) at (choice .end) × (length (now name) ≤ 4096) × Tabled choice ⌝ }
-    ensures { λ r. ⌜ Does (now (text .entry)) (now (name .entry)) (finish (now (text .entry)) (at .st) (choice .end) (plain-kind (choice .place) (choice .word)) (plain-text (now (text .entry)) (now (name .entry)) (at .st) (choice .place) (choice .end) (choice .word))) r ⌝ }
+pub fn plain(at: Place, choice: Choice) -> Ruling
+    requires { ⌜ Tabled choice ⌝ }
+    ensures { λ r. ⌜ ((s name : Bytes) → Chose s at (choice .end) → length name ≤ 4096 → Rules s name at (choice .end) (finish s (at .st) (choice .end) (plain-kind (choice .place) (choice .word)) (plain-text s name (at .st) (choice .place) (choice .end) (choice .word))) r) ⌝ }
 {
+    let st = at.st;
     let kind = plain_kind(choice);
     let payload = plain_payload(at, choice);
-    finish(text, name, at, choice.end, kind, payload, Extra::NoExtra)
+    Ruling::Token {
+        kind: kind,
+        from: st.offset as usize,
+        end: choice.end,
+        payload: payload,
+    }
 }

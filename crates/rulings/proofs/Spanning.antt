@@ -1,18 +1,29 @@
--- What a token up to a choice's end asks for. Rests on the laws of where a reader stands.
+-- What a token up to a choice's end asks for, and where its positions are asked for. Rests on the laws of where a reader stands.
 use Prim.Native.Nat.{ℕ, _≤_}
-use mathlib.Core.Path.{refl}
+use mathlib.Core.Path.{_≡_, refl}
 use mathlib.Core.List.{[]}
 use native.Mathlib.Omega.{arith}
 use lib.ListN.{length}
 use Rattle.definition.specs.Basics.{Bytes}
+use Rattle.definition.specs.Position.{one-each}
 use Rattle.definition.specs.State.{advance}
+use Rattle.definition.specs.declared.State.{State}
 use Rattle.state.specs.Sound.{Stands}
+use Rattle.positions.specs.Columns.{Asked, located}
+use Rattle.positions.specs.declared.Located.{Located}
+use Rattle.positions.specs.declared.Cache.{Cache}
 use Rattle.soundness.proofs.Moving.{walk-stands, stands-within}
 use Rattle.described.specs.Described.{Sized, Describes}
+use Rattle.described.specs.Standing.{Standing}
 use Rattle.described.specs.declared.Place.{Place}
 use Rattle.described.specs.declared.Payload.{Payload}
 use Rattle.described.specs.declared.Payload.the-variants.{Part}
+use Rattle.described.proofs.Standing.{asks, known-asked}
 use Rattle.rulings.specs.Rulings.{Chose, Spans}
+
+-- a reader that asked for the position of an offset of its line stands where it stood
+pub asked-stands : {s : Bytes} {st : State} {known : Cache} {i : ℕ} (there : Located) → Standing s st known → st .bol ≤ i → there ≡ located s st i → Standing s st (there .known)
+asked-stands {s} {st} {known} {i} there h l q = rw q (record { stands = h .stands; cached = known-asked h i l })
 
 -- nothing is described by the part from 0 to 0
 pub nothing-describes : (s name f : Bytes) → Describes s name f (Part 0 0) []
@@ -47,3 +58,7 @@ module _ {s : Bytes} {at : Place} {e : ℕ} (h : Chose s at e) where
   -- so at the choice's end
   pub spans : {name : Bytes} {p : Payload} → Sized name p → Spans s name at (at .st .offset) e p
   spans z = spans-to behind z
+
+  -- the positions of the choice's ends are asked for one behind the other
+  pub end-asked : (start : Located) → start ≡ located s (at .st) (at .st .offset) → Asked one-each s (at .st) (start .known) e
+  end-asked start q = asks (asked-stands start (h .standing) (h .standing .stands .sound .order) q) e same-line (h .onward .within)

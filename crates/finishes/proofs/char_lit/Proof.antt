@@ -1,6 +1,6 @@
 -- The code point is what stands behind the quote.
 use Rattle.definition.specs.Kinds.{kind, kind-names, number-from}
-use Rattle.finishes.proofs.Spanning.{end-asked}
+use Rattle.rulings.proofs.Spanning.{end-asked}
 use Rattle.finishes.proofs.Finishing.{char-does}
 use borrow.Author.Needs.{needs}
 use Rattle.finishes.proofs.char_lit.Statement.{statement}

@@ -1,6 +1,6 @@
 -- The range's positions are asked for one behind the other.
-use Rattle.finishes.proofs.Spanning.{asked-stands, end-asked, over-reads}
-use Rattle.rulings.proofs.Spanning.{same-line}
+use Rattle.finishes.proofs.Spanning.{over-reads}
+use Rattle.rulings.proofs.Spanning.{asked-stands, end-asked, same-line}
 use borrow.Author.Needs.{needs}
 use Rattle.finishes.proofs.error_over.Statement.{statement}
 use Rattle.finishes.proofs.error_over.Tie as tie

@@ -1,8 +1,8 @@
 -- The comment begins where the choice does, and its start is asked for once.
-use Rattle.rules.proofs.ReadOn.{in-comment, comment-reads}
+use Rattle.readers.proofs.ReadOn.{in-comment, comment-reads}
 use borrow.Author.Needs.{needs}
-use Rattle.rules.proofs.readers.comment_start.Statement.{statement}
-use Rattle.rules.proofs.readers.comment_start.Tie as tie
+use Rattle.readers.proofs.comment_start.Statement.{statement}
+use Rattle.readers.proofs.comment_start.Tie as tie
 
 pos-of-requires : tie.Need-pos-of-requires
 pos-of-requires c κs = search needs
@@ -20,10 +20,10 @@ cast-comment : tie.Need-cast-comment
 cast-comment c = search needs
 
 comment-requires : tie.Need-comment-requires
-comment-requires c κs = in-comment (c .before .before .before .before .before .before .before .pre) (c .before .before .before .pos-of .ensures) (c .before .before .advance .ensures) (c .before .open-comment .ensures)
+comment-requires c κs = in-comment (c .before .before .before .before .before .before .before .before .pre) (c .before .before .before .before .pos-of .ensures) (c .before .before .advance .ensures) (c .before .open-comment .ensures)
 
 returns : tie.Need-returns
-returns c = comment-reads (c .before .before .before .before .before .before .before .before .pre) (c .before .before .before .before .pos-of .ensures) (c .before .before .before .advance .ensures) (c .before .before .open-comment .ensures) (c .comment .ensures)
+returns c = comment-reads (c .before .before .before .before .before .before .before .before .before .pre) (c .before .before .before .before .before .pos-of .ensures) (c .before .before .before .advance .ensures) (c .before .before .open-comment .ensures) (c .comment .ensures)
 
 pub comment-start-spec : {M : Type 1} → statement M
 comment-start-spec =

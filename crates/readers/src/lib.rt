@@ -1,4 +1,8 @@
 // What is read on from behind a choice: comments, literals and blobs.
+//
+// Proved: each function reads what the definition's rule gives (crates/definition/specs/Token.antt): item, payload and state.
+// Assumed: nothing but what each function's `requires` says: a reader stands in a sound state of a legal text, the choice
+// ends behind it (`Chose`), and the class file is accepted where a literal is read.
 use blobs::Header;
 use blobs::blob;
 use blobs::use_lang;
@@ -22,8 +26,8 @@ ghost use Rattle.definition.specs.Blob as blob-source;
 ghost use Rattle.definition.specs.Token.{header};
 ghost use Rattle.comments.specs.Contracts.{ReadsAny};
 ghost use Rattle.described.specs.Described.{Reads};
-ghost use Rattle.finishes.specs.Finishing.{Chose};
-ghost use Rattle.rules.specs.Acting.{Names};
+ghost use Rattle.rulings.specs.Rulings.{Chose};
+ghost use Rattle.readers.specs.Names.{Names};
 
 // A comment behind its opening.
 pub fn comment_start(text: &[u8], at: Place, e: usize) -> Read
@@ -33,9 +37,10 @@ pub fn comment_start(text: &[u8], at: Place, e: usize) -> Read
     let st = at.st;
     let known = at.known;
     let here = pos_of(text, st, known, st.offset);
+    let column = here.known;
     let inside = Place {
         st: st.advance(e as u32).open_comment(here.pos),
-        known: known,
+        known: column,
     };
     comment(text, st.offset as usize, inside)
 }

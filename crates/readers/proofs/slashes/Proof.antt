@@ -1,8 +1,8 @@
 -- The comment's text begins with the slashes.
-use Rattle.rules.proofs.ReadOn.{behind-slashes, slashes-read}
+use Rattle.readers.proofs.ReadOn.{behind-slashes, slashes-read}
 use borrow.Author.Needs.{needs}
-use Rattle.rules.proofs.readers.slashes.Statement.{statement}
-use Rattle.rules.proofs.readers.slashes.Tie as tie
+use Rattle.readers.proofs.slashes.Statement.{statement}
+use Rattle.readers.proofs.slashes.Tie as tie
 
 cast-line-comment : tie.Need-cast-line-comment
 cast-line-comment c = search needs

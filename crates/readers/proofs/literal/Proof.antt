@@ -1,8 +1,8 @@
 -- The literal is read from behind its quote, whose position is asked for before.
-use Rattle.rules.proofs.ReadOn.{before-literal, literal-reads}
+use Rattle.readers.proofs.ReadOn.{before-literal, literal-reads}
 use borrow.Author.Needs.{needs}
-use Rattle.rules.proofs.readers.literal.Statement.{statement}
-use Rattle.rules.proofs.readers.literal.Tie as tie
+use Rattle.readers.proofs.literal.Statement.{statement}
+use Rattle.readers.proofs.literal.Tie as tie
 
 pos-of-requires : tie.Need-pos-of-requires
 pos-of-requires c κs = search needs

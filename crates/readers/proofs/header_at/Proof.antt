@@ -1,9 +1,9 @@
 -- The header's positions are asked for one behind the other.
-use Rattle.finishes.proofs.Spanning.{end-asked}
-use Rattle.rules.proofs.ReadOn.{header-names}
+use Rattle.rulings.proofs.Spanning.{end-asked}
+use Rattle.readers.proofs.ReadOn.{header-names}
 use borrow.Author.Needs.{needs}
-use Rattle.rules.proofs.readers.header_at.Statement.{statement}
-use Rattle.rules.proofs.readers.header_at.Tie as tie
+use Rattle.readers.proofs.header_at.Statement.{statement}
+use Rattle.readers.proofs.header_at.Tie as tie
 
 pos-of-requires : tie.Need-pos-of-requires
 pos-of-requires c κs = search needs

@@ -22,14 +22,14 @@ use Rattle.described.specs.Standing.{Standing}
 use Rattle.described.specs.Places.{moved}
 use Rattle.described.specs.declared.Place.{Place}
 use Rattle.described.specs.declared.Read.{Read}
-use Rattle.described.proofs.Standing.{known-kept}
+use Rattle.described.proofs.Standing.{known-kept, known-asked}
 use Rattle.comments.specs.Contracts.{InComment, Behind, ReadsAny}
 use Rattle.strings.specs.Contracts.{Reader}
 use Rattle.blobs.specs.Contents.{header-of, InBlob}
 use Rattle.blobs.specs.declared.Header.{Header}
-use Rattle.finishes.specs.Finishing.{Chose}
-use Rattle.finishes.proofs.Spanning.{behind}
-use Rattle.rules.specs.Acting.{Names}
+use Rattle.rulings.specs.Rulings.{Chose}
+use Rattle.rulings.proofs.Spanning.{behind}
+use Rattle.readers.specs.Names.{Names}
 
 module _ {s : Bytes} {at : Place} {e : ℕ} (h : Chose s at e) where
   -- behind the choice a reader stands with what is known already
@@ -43,13 +43,13 @@ module _ {s : Bytes} {at : Place} {e : ℕ} (h : Chose s at e) where
     opened = o ∙ ap (λ (b : State). open-comment b (here .pos)) q ∙ ap (λ (l : Located). open-comment (advance (at .st) e) (l .pos)) p
 
     -- the comment is read from its opening on
-    pub in-comment : InComment s (record { st = inside; known = at .known })
+    pub in-comment : InComment s (record { st = inside; known = here .known })
     in-comment =
-        rw opened
+        rw (opened, p)
         (record {
           standing = record {
             stands = open-stands (h .standing .stands) (h .between) (h .onward);
-            cached = known-kept (at .st) (open-comment (advance (at .st) e) (cur-pos s (at .st))) refl refl (h .standing .cached);
+            cached = known-kept (at .st) (open-comment (advance (at .st) e) (cur-pos s (at .st))) refl refl (known-asked (h .standing) (at .st .offset) (h .standing .stands .sound .order));
           };
           mode = refl;
         })

@@ -1,9 +1,9 @@
 -- The header is the definition's, with a name behind six bytes.
 use Rattle.definition.specs.Blob.{use-lang}
-use Rattle.rules.proofs.ReadOn.{before-blob, blob-reads}
+use Rattle.readers.proofs.ReadOn.{before-blob, blob-reads}
 use borrow.Author.Needs.{needs}
-use Rattle.rules.proofs.readers.language.Statement.{statement}
-use Rattle.rules.proofs.readers.language.Tie as tie
+use Rattle.readers.proofs.language.Statement.{statement}
+use Rattle.readers.proofs.language.Tie as tie
 
 header-at-requires : tie.Need-header-at-requires
 header-at-requires c κs = search needs
