@@ -56,14 +56,7 @@ fn finish_from(
 }
 
 // An error over what was chosen, up to byte e.
-fn error_over(
-    text: &[u8],
-    name: &[u8],
-    at: Place,
-    e: usize,
-    number: u32,
-    payload: Payload,
-) -> Read
+fn error_over(text: &[u8], name: &[u8], at: Place, e: usize, number: u32, payload: Payload) -> Read
     requires { ⌜ Chose (now text) at e × Sized (now name) payload ⌝ }
     ensures { λ r. ⌜ ((f bytes : Bytes) → Describes (now (text .entry)) (now (name .entry)) f payload bytes → Reads (now (text .entry)) (now (name .entry)) f (lex-error (now (text .entry)) (at .st) number bytes (cur-pos (now (text .entry)) (at .st)) (pos-of (now (text .entry)) (at .st) e)) r) ⌝ }
 {

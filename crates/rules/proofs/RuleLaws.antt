@@ -27,7 +27,7 @@ use Rattle.soundness.proofs.Moving.{stands-within}
 use Rattle.rulings.specs.Rulings.{Chose, Rules, ruling-step}
 use Rattle.rulings.specs.declared.Ruling.{Ruling}
 use Rattle.rulings.proofs.RulingLaws.{rules-same}
-use Rattle.rules.specs.Keys.{Missing}
+use Rattle.rules.specs.Keys.{Missing, keyed}
 use Rattle.rules.specs.Plain.{place-kinds}
 use Rattle.rules.specs.Ruling.{rule-numbers, rule-of, does}
 use Rattle.rules.specs.Tabled.{table-size, Tabled}
@@ -77,26 +77,40 @@ below-at m [] t z k = z
 below-at m (x ∷ l) t z zero = ltb-true x m (both (ltb x m) (below m l) t .0)
 below-at m (x ∷ l) t z (suc k) = below-at m l (both (ltb x m) (below m l) t .1) z k
 
--- the numbers, from the last arm to the first
-abbrev numbered : List ℕ → List (ℕ × Unit {0})
-numbered = map (λ (k : ℕ). (k, tt))
-
 -- what is none of the arms that read for themselves gives a ruling
-pub short-rule : {n k : ℕ} → n ≡ rule-of k → ReadsOn k → Missing (numbered (0 ∷ 15 ∷ 14 ∷ 13 ∷ 6 ∷ 3 ∷ 2 ∷ [])) n → Short n
+pub short-rule : {n k : ℕ} → n ≡ rule-of k → ReadsOn k → Missing (keyed (0 ∷ 15 ∷ 14 ∷ 13 ∷ 6 ∷ 3 ∷ 2 ∷ [])) n → Short n
 unfolding rule-numbers
 short-rule {n} {k} q o (((((((u, m2), m3), m6), m13), m14), m15), m0) = record {
   listed = subst (λ (m : ℕ). m < 19) (sym q) (below-at 19 rule-numbers refl (omega arith) k);
   short = (((((((((tt, m0), m2), m3), λ e. o .no-white (sym q ∙ e)), λ e. o .no-line-end (sym q ∙ e)), m6), m13), m14), m15);
 }
 
--- and what is none of the other arms is the rule of operators
-pub operator-rule : {n : ℕ} → Short n → Missing (numbered (18 ∷ 16 ∷ 12 ∷ 11 ∷ 10 ∷ 9 ∷ 8 ∷ 7 ∷ 1 ∷ [])) n → n ≡ 17
-operator-rule {n} record { listed = l; short = (((((((((u, m0), m2), m3), m4), m5), m6), m13), m14), m15) } (((((((((v, m1), m7), m8), m9), m10), m11), m12), m16), m18) = omega arith
+-- a number that is none of those below k is k or more
+abbrev down : ℕ → List ℕ
+down zero = []
+down (suc k) = k ∷ down k
+
+at-least : (k : ℕ) {n : ℕ} → Missing (keyed (down k)) n → k ≤ n
+at-least zero m = omega arith
+at-least (suc k) {n} m =
+    let up = at-least k {n = n} (m .0) in
+    let other = m .1 in
+    omega (arith, up, other)
+
+last-of : {n : ℕ} → 17 ≤ n → n < 19 → (n ≡ 18 → ⊥) → n ≡ 17
+last-of a l m = omega arith
+
+-- so what is none of the other arms is the rule of operators
+pub operator-rule : {n : ℕ} → Short n → Missing (keyed (18 ∷ 16 ∷ 12 ∷ 11 ∷ 10 ∷ 9 ∷ 8 ∷ 7 ∷ 1 ∷ [])) n → n ≡ 17
+operator-rule {n} h (((((((((v, m1), m7), m8), m9), m10), m11), m12), m16), m18) =
+    let record { listed = l; short = (((((((((u, m0), m2), m3), m4), m5), m6), m13), m14), m15) } = h in
+    last-of (at-least 17 (((((((((((((((((tt, m0), m1), m2), m3), m4), m5), m6), m7), m8), m9), m10), m11), m12), m13), m14), m15), m16)) l m18
 
 -- a ruling by the number of a rule
-pub ruled-by : {s name : Bytes} {at : Place} {e : ℕ} {r : Ruling} (f : Bytes) (k w : ℕ) {n m : ℕ} → n ≡ m
-    → Rules s name at e (does s name f m (at .st) k e w) r → Rules s name at e (does s name f n (at .st) k e w) r
-ruled-by {s} {name} {at} {e} f k w q d = rules-same (ap (λ (m : ℕ). does s name f m (at .st) k e w) q) d
+pub ruled-by : {s name : Bytes} {at : Place} {c : Choice} {r : Ruling} (f : Bytes) → Tabled c → {n m : ℕ} → n ≡ m
+    → Rules s name at (c .end) (does s name f m (at .st) (c .place) (c .end) (c .word)) r
+    → Rules s name at (c .end) (does s name f n (at .st) (c .place) (c .end) (c .word)) r
+ruled-by {s} {name} {at} {c} f h q d = rules-same (ap (λ (m : ℕ). does s name f m (at .st) (c .place) (c .end) (c .word)) q) d
 
 module _ {s name f : Bytes} {at : Place} {c : Choice} (h : Acts s name f at c) where
   -- the choice is one of the places, with a word of its table
@@ -119,6 +133,9 @@ module _ {s name f : Bytes} {at : Place} {c : Choice} (h : Acts s name f at c) w
     by-rule t d =
         subst (λ (x : Token-turn). Turns s name f x t)
         (ap (λ (m : ℕ). does s name f m (at .st) (c .place) (c .end) (c .word)) (sym p ∙ q) ∙ sym (act-is s name f (at .st) c (tabled .place))) d
+
+  pub chose-short : {n : ℕ} → n ≡ rule-of (c .place) → Short n → Chose s at (c .end)
+  chose-short {n} q o = chose q refl (ne-eqb n 0 (o .short .0 .0 .0 .0 .0 .0 .0 .0 .1))
 
   -- a ruling that is carried out
   pub carried-out : {n : ℕ} {x : Ruling} {r : Read} → n ≡ rule-of (c .place)

@@ -2,7 +2,7 @@
 -- stands, c the choice.
 use Prim.Native.Nat.{ℕ, _≤_, _<_}
 use mathlib.Core.Path.{_≡_}
-use mathlib.Core.List.{[], _∷_, map}
+use mathlib.Core.List.{[], _∷_}
 use lib.ListN.{length}
 use Rattle.definition.specs.Basics.{Bytes}
 use Rattle.definition.specs.ClassFile.{class-check}
@@ -10,7 +10,7 @@ use Rattle.definition.specs.Select.{select}
 use Rattle.definition.specs.declared.Choice.{Choice}
 use Rattle.described.specs.Standing.{Standing}
 use Rattle.described.specs.declared.Place.{Place}
-use Rattle.rules.specs.Keys.{Missing}
+use Rattle.rules.specs.Keys.{Missing, keyed}
 use Rattle.rules.specs.Ruling.{rule-of}
 
 pub record Acts (s name f : Bytes) (at : Place) (c : Choice) : Type 0 where
@@ -29,4 +29,4 @@ pub record ReadsOn (k : ℕ) : Type 0 where
 -- n is the number of a rule that reads a choice whole, and reads it as a token, an error or a line's comment
 pub record Short (n : ℕ) : Type 0 where
   pub listed : n < 19
-  pub short : Missing (map (λ (k : ℕ). (k, tt)) (15 ∷ 14 ∷ 13 ∷ 6 ∷ 5 ∷ 4 ∷ 3 ∷ 2 ∷ 0 ∷ [])) n
+  pub short : Missing (keyed (15 ∷ 14 ∷ 13 ∷ 6 ∷ 5 ∷ 4 ∷ 3 ∷ 2 ∷ 0 ∷ [])) n
