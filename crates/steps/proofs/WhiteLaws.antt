@@ -26,7 +26,7 @@ use Rattle.select.proofs.First.{white-path, line-path}
 use Rattle.described.specs.Places.{moved, next-line}
 use Rattle.described.specs.declared.Place.{Place}
 use Rattle.described.specs.declared.Turned.the-variants.{Again}
-use Rattle.finishes.specs.Finishing.{Chose}
+use Rattle.rulings.specs.Rulings.{Chose}
 use Rattle.rules.proofs.RuleLaws.{moved-turns, line-turns}
 use Rattle.steps.specs.White.{is-blank, Between, Passes}
 use Rattle.steps.specs.declared.white.Passed.the-variants.{On}
