@@ -28,7 +28,7 @@ use Rattle.described.specs.declared.Place.{Place}
 use Rattle.described.specs.declared.Payload.the-variants.{Part, Greater}
 use Rattle.described.specs.declared.Read.{Read}
 use Rattle.described.proofs.Describing.{part-describes}
-use Rattle.comments.specs.Contracts.{ReadsAny}
+use Rattle.line_comments.specs.Contracts.{ReadsAny}
 use Rattle.finishes.specs.Finishing.{spanned, Does, DoesOf, Chose, Spans}
 use Rattle.finishes.proofs.Spanning.{part-sized, spans-to}
 

@@ -1,11 +1,11 @@
 // What a line comment may cut: a token ends where two slashes stand in it.
 use crate::tokens::finish;
 use crate::tokens::finish_from;
-use comments::lines::line_comment;
 use definition::Extra;
 use described::Payload;
 use described::Place;
 use described::Read;
+use line_comments::line_comment;
 use scan::bytes::no_comment;
 use words::kw_op_kind;
 use words::kw_op_length;

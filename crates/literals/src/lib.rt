@@ -4,9 +4,9 @@
 // Assumed: nothing but what the `requires` says: the class file is accepted, the length is the literal's, and it fits.
 use described::span;
 use escapes::encode_into;
-use strings::Move;
+use string_moves::Move;
+use string_moves::string_move;
 use strings::end_of;
-use strings::string_move;
 ghost use mathlib.Core.Path.{_≡_};
 ghost use Rattle.definition.specs.Text.{lexeme};
 ghost use Rattle.lemmas.specs.Over.{over, Wrote};
