@@ -14,9 +14,9 @@ use Rattle.described.specs.Described.{literal, Describes}
 use Rattle.string_moves.specs.declared.Move.{Move}
 use Rattle.string_moves.specs.declared.Move.the-variants.{Copy, Skip, Line, Char, Surrogate, Close, Open}
 use Rattle.string_moves.specs.Moves.{string-move}
-use Rattle.string_moves.specs.Ends.{Goes}
+use Rattle.string_moves.specs.Ends.{adds, ends-at, On, Goes}
 use Rattle.string_moves.proofs.Goes.{move-goes}
-use Rattle.strings.specs.Literal.{adds, ends-at, On, literal-from}
+use Rattle.strings.specs.Literal.{literal-from}
 use Rattle.strings.proofs.LiteralLaws.{literal-starts, literal-on, literal-closed, literal-surrogate, literal-open}
 use Rattle.strings.proofs.Growth.{literal-grows, grows-longer, grows-ends}
 use Rattle.strings.proofs.LoopLaws.{on-past}

@@ -5,13 +5,13 @@
 use described::span;
 use escapes::encode_into;
 use string_moves::Move;
+use string_moves::end_of;
 use string_moves::string_move;
-use strings::end_of;
 ghost use mathlib.Core.Path.{_≡_};
 ghost use Rattle.definition.specs.Text.{lexeme};
 ghost use Rattle.lemmas.specs.Over.{over, Wrote};
 ghost use Rattle.described.specs.Described.{literal};
-ghost use Rattle.strings.specs.Literal.{adds};
+ghost use Rattle.string_moves.specs.Ends.{adds};
 ghost use Rattle.literals.specs.Contracts.{Copies, Puts, Writes};
 
 // Copies the bytes of the text from i up to e to the front of the buffer, and says how many they are.

@@ -1,9 +1,12 @@
 // What stands at an offset of a string literal.
 //
 // Proved: what is found at an offset is what the specification says (specs/Moves.antt), whose cases are those of the definition's
-// `string-turn`; it ends behind the offset and within the text, and an escape stands for fewer bytes than it has.
+// `string-turn`; it ends behind the offset and within the text, and an escape stands for fewer bytes than it has. How many bytes a
+// move adds to the literal, and where it ends, are what specs/Ends.antt says.
 // Assumed: nothing but what `string_move` requires: the class file is accepted.
 use definition::Match;
+use described::span;
+use escapes::encode_length;
 use escapes::is_surrogate;
 use escapes::unescape;
 use matchers::names::match_newline;
@@ -14,6 +17,7 @@ use scan::stops::run_end;
 ghost use mathlib.Core.Path.{_≡_};
 ghost use Rattle.definition.specs.ClassFile.{class-check};
 ghost use Rattle.string_moves.specs.Moves.{escape-move, last-move, stop-move, broken-line, string-move};
+ghost use Rattle.string_moves.specs.Ends.{added, ends-at};
 
 // What stands at an offset of a literal. A number at the end of a variant is the offset behind it.
 pub enum Move {
@@ -93,4 +97,34 @@ pub fn string_move(text: &[u8], classes: &[u8], i: usize) -> Move
         return stop_move(text, i);
     };
     Move::Skip(star_anywhite(text, classes, nl))
+}
+
+// How many bytes a move at i adds to the literal.
+pub fn added(m: Move, i: usize) -> usize
+    ensures { λ r. ⌜ r ≡ added i m ⌝ }
+{
+    match m {
+        Move::Copy(e) => span(i, e),
+        Move::Skip(_) => 0,
+        Move::Line(e) => span(i, e),
+        Move::Char(c, _) => encode_length(c),
+        Move::Surrogate => 0,
+        Move::Close(_) => 0,
+        Move::Open => 0,
+    }
+}
+
+// Where a move from i ends.
+pub fn end_of(m: Move, i: usize) -> usize
+    ensures { λ r. ⌜ r ≡ ends-at i m ⌝ }
+{
+    match m {
+        Move::Copy(e) => e,
+        Move::Skip(e) => e,
+        Move::Line(e) => e,
+        Move::Char(_, e) => e,
+        Move::Surrogate => i,
+        Move::Close(e) => e,
+        Move::Open => i,
+    }
 }

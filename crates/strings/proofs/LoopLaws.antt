@@ -25,8 +25,8 @@ use Rattle.described.specs.Standing.{Standing}
 use Rattle.string_moves.specs.declared.Move.{Move}
 use Rattle.string_moves.specs.declared.Move.the-variants.{Copy, Skip, Line, Char, Surrogate, Close, Open}
 use Rattle.string_moves.specs.Moves.{string-move}
-use Rattle.string_moves.specs.Ends.{Past, Goes}
-use Rattle.strings.specs.Literal.{adds, added, ends-at, On, does, states, Held}
+use Rattle.string_moves.specs.Ends.{Past, Goes, adds, added, ends-at, On}
+use Rattle.strings.specs.Literal.{does, states, Held}
 use Rattle.strings.specs.Contracts.{Safe, Turning, Reader}
 use Rattle.strings.proofs.TurnLaws.{turn-does}
 use Rattle.string_moves.proofs.Goes.{move-goes}

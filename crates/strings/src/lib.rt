@@ -16,9 +16,9 @@ use described::places::next_line;
 use described::span;
 use described::tokens::error_here;
 use described::tokens::token;
-use escapes::encode_length;
 use positions::pos_of;
 use string_moves::Move;
+use string_moves::added;
 use string_moves::string_move;
 ghost use mathlib.Core.Path.{_≡_};
 ghost use Prim.Native.Nat.{_<_};
@@ -26,40 +26,10 @@ ghost use Rattle.definition.specs.Basics.{Bytes};
 ghost use Rattle.definition.specs.Strings.{string-lit};
 ghost use Rattle.described.specs.Described.{literal, Sized, Describes, Reads, Turns};
 ghost use Rattle.string_moves.specs.Moves.{string-move};
-ghost use Rattle.strings.specs.Literal.{added, ends-at, closed, does, states, Held};
+ghost use Rattle.strings.specs.Literal.{closed, does, states, Held};
 ghost use Rattle.strings.specs.Contracts.{Closing, Turning, Reader};
 
 const STRING: u32 = 148;
-
-// How many bytes a move at i adds to the literal.
-pub fn added(m: Move, i: usize) -> usize
-    ensures { λ r. ⌜ r ≡ added i m ⌝ }
-{
-    match m {
-        Move::Copy(e) => span(i, e),
-        Move::Skip(_) => 0,
-        Move::Line(e) => span(i, e),
-        Move::Char(c, _) => encode_length(c),
-        Move::Surrogate => 0,
-        Move::Close(_) => 0,
-        Move::Open => 0,
-    }
-}
-
-// Where a move from i ends.
-pub fn end_of(m: Move, i: usize) -> usize
-    ensures { λ r. ⌜ r ≡ ends-at i m ⌝ }
-{
-    match m {
-        Move::Copy(e) => e,
-        Move::Skip(e) => e,
-        Move::Line(e) => e,
-        Move::Char(_, e) => e,
-        Move::Surrogate => i,
-        Move::Close(e) => e,
-        Move::Open => i,
-    }
-}
 
 // What a literal of `count` bytes holds that stands in the text from `from` up to `to`: the very bytes there, if they are as
 // many.

@@ -1,7 +1,7 @@
 -- Each arm's number is the definition's.
 use borrow.Author.Needs.{needs}
-use Rattle.strings.proofs.added.Statement.{statement}
-use Rattle.strings.proofs.added.Tie as tie
+use Rattle.string_moves.proofs.added.Statement.{statement}
+use Rattle.string_moves.proofs.added.Tie as tie
 
 enum-known-m : tie.Need-enum-known-m
 enum-known-m c = search needs
