@@ -2,8 +2,8 @@
 use mathlib.Core.Path.{sym, ap, _∙_}
 use Rattle.definition.specs.Select.{found}
 use borrow.Author.Needs.{needs}
-use Rattle.groups.proofs.choice.found.Statement.{statement}
-use Rattle.groups.proofs.choice.found.Tie as tie
+use Rattle.attempts.proofs.found.Statement.{statement}
+use Rattle.attempts.proofs.found.Tie as tie
 
 enum-known-m : tie.Need-enum-known-m
 enum-known-m c = search needs
