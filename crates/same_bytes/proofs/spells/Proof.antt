@@ -4,10 +4,10 @@ use Prim.Native.Nat.{_-_}
 use mathlib.Core.Path.{_∙_}
 use lib.ListN.{length}
 use borrow.Author.Needs.{needs}
-use Rattle.spellings.proofs.Prefix.{Agrees, agrees-starts, agrees-goes-on, agrees-stops, agrees-ends}
-use Rattle.spellings.proofs.WordLaws.{whole, other-length}
-use Rattle.spellings.proofs.spells.Statement.{statement}
-use Rattle.spellings.proofs.spells.Tie as tie
+use Rattle.same_bytes.proofs.Prefix.{Agrees, agrees-starts, agrees-goes-on, agrees-stops, agrees-ends}
+use Rattle.same_bytes.proofs.WordLaws.{whole, other-length}
+use Rattle.same_bytes.proofs.spells.Statement.{statement}
+use Rattle.same_bytes.proofs.spells.Tie as tie
 
 abbrev Inv-loop : tie.InvT-loop
 Inv-loop id word i₀ i = Agrees id word i
