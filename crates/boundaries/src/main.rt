@@ -32,78 +32,119 @@ fn show(bytes: &[u8]) {
     io::write_all(STDOUT_FILENO, b"\n");
 }
 
-// Each end of each range of the table, and what stands beside it.
-fn ranges() {
+// The line of a text of so many bytes. A call with bytes is checked much faster than one with a byte string.
+fn one(a: u8) {
+    show(&[a]);
+}
+
+fn two(a: u8, b: u8) {
+    show(&[a, b]);
+}
+
+fn three(a: u8, b: u8, c: u8) {
+    show(&[a, b, c]);
+}
+
+fn four(a: u8, b: u8, c: u8, d: u8) {
+    show(&[a, b, c, d]);
+}
+
+// Each end of each range of the table, and what stands beside it: no byte, one, and two.
+fn few_bytes() {
     show(b"");
-    show(b"\x00");
-    show(b"\x7F");
-    show(b"\xC0\x80");
-    show(b"\xC1\xBF");
-    show(b"\xC2\x80");
-    show(b"\xDF\xBF");
-    show(b"\xC2\x7F");
-    show(b"\xC2\xC0");
-    show(b"\xE0\x80\x80");
-    show(b"\xE0\x9F\xBF");
-    show(b"\xE0\xA0\x80");
-    show(b"\xE0\xBF\xBF");
-    show(b"\xE1\x80\x80");
-    show(b"\xEC\xBF\xBF");
-    show(b"\xED\x80\x80");
-    show(b"\xED\x9F\xBF");
-    show(b"\xED\xA0\x80");
-    show(b"\xED\xBF\xBF");
-    show(b"\xEE\x80\x80");
-    show(b"\xEF\xBF\xBF");
-    show(b"\xE1\x80\x7F");
-    show(b"\xE1\x80\xC0");
-    show(b"\xF0\x80\x80\x80");
-    show(b"\xF0\x8F\xBF\xBF");
-    show(b"\xF0\x90\x80\x80");
-    show(b"\xF0\xBF\xBF\xBF");
-    show(b"\xF1\x80\x80\x80");
-    show(b"\xF3\xBF\xBF\xBF");
-    show(b"\xF1\x80\x80\x7F");
-    show(b"\xF1\x80\x80\xC0");
-    show(b"\xF4\x80\x80\x80");
-    show(b"\xF4\x8F\xBF\xBF");
-    show(b"\xF4\x90\x80\x80");
-    show(b"\xF5\x80\x80\x80");
-    show(b"\xFF");
-    show(b"\x80");
-    show(b"\xBF");
+    one(0x00);
+    one(0x7F);
+    two(0xC0, 0x80);
+    two(0xC1, 0xBF);
+    two(0xC2, 0x80);
+    two(0xDF, 0xBF);
+    two(0xC2, 0x7F);
+    two(0xC2, 0xC0);
 }
 
-// Sequences of more than one byte, cut short: those that no legal one begins with, and the legal ones.
-fn cut_short() {
-    show(b"\xC0");
-    show(b"\xC1");
-    show(b"\xE0\x80");
-    show(b"\xED\xA0");
-    show(b"\xF0\x80");
-    show(b"\xF0\x80\x80");
-    show(b"\xF4\x90");
-    show(b"\xF4\x90\x80");
-    show(b"\xF5");
-    show(b"\xC2");
-    show(b"\xDF");
-    show(b"\xE0\xA0");
-    show(b"\xED\x9F");
-    show(b"\xEE\x80");
-    show(b"\xEF\xBF");
-    show(b"\xF0\x90\x80");
-    show(b"\xF4\x8F\xBF");
-    show(b"\xE0");
-    show(b"\xED");
-    show(b"\xEE");
-    show(b"\xEF");
-    show(b"\xF0\x90");
-    show(b"\xF4\x8F");
-    show(b"\xF0");
-    show(b"\xF4");
+// Three bytes, up to the surrogates.
+fn three_bytes() {
+    three(0xE0, 0x80, 0x80);
+    three(0xE0, 0x9F, 0xBF);
+    three(0xE0, 0xA0, 0x80);
+    three(0xE0, 0xBF, 0xBF);
+    three(0xE1, 0x80, 0x80);
+    three(0xEC, 0xBF, 0xBF);
+    three(0xED, 0x80, 0x80);
+    three(0xED, 0x9F, 0xBF);
 }
 
-// Some behind legal bytes.
+// Three bytes from the surrogates on, and a last byte that is none of 80 to BF.
+fn surrogates() {
+    three(0xED, 0xA0, 0x80);
+    three(0xED, 0xBF, 0xBF);
+    three(0xEE, 0x80, 0x80);
+    three(0xEF, 0xBF, 0xBF);
+    three(0xE1, 0x80, 0x7F);
+    three(0xE1, 0x80, 0xC0);
+}
+
+// Four bytes that begin with F0 to F3, and a last byte that is none of 80 to BF.
+fn four_bytes() {
+    four(0xF0, 0x80, 0x80, 0x80);
+    four(0xF0, 0x8F, 0xBF, 0xBF);
+    four(0xF0, 0x90, 0x80, 0x80);
+    four(0xF0, 0xBF, 0xBF, 0xBF);
+    four(0xF1, 0x80, 0x80, 0x80);
+    four(0xF3, 0xBF, 0xBF, 0xBF);
+    four(0xF1, 0x80, 0x80, 0x7F);
+    four(0xF1, 0x80, 0x80, 0xC0);
+}
+
+// The last characters, and bytes that begin no sequence.
+fn last_characters() {
+    four(0xF4, 0x80, 0x80, 0x80);
+    four(0xF4, 0x8F, 0xBF, 0xBF);
+    four(0xF4, 0x90, 0x80, 0x80);
+    four(0xF5, 0x80, 0x80, 0x80);
+    one(0xFF);
+    one(0x80);
+    one(0xBF);
+}
+
+// Sequences of more than one byte, cut short: those that no legal one begins with.
+fn cut_wrong() {
+    one(0xC0);
+    one(0xC1);
+    two(0xE0, 0x80);
+    two(0xED, 0xA0);
+    two(0xF0, 0x80);
+    three(0xF0, 0x80, 0x80);
+    two(0xF4, 0x90);
+    three(0xF4, 0x90, 0x80);
+    one(0xF5);
+}
+
+// Legal sequences without their last byte.
+fn cut_by_one() {
+    one(0xC2);
+    one(0xDF);
+    two(0xE0, 0xA0);
+    two(0xED, 0x9F);
+    two(0xEE, 0x80);
+    two(0xEF, 0xBF);
+    three(0xF0, 0x90, 0x80);
+    three(0xF4, 0x8F, 0xBF);
+}
+
+// Legal sequences without their last two or three bytes.
+fn cut_more() {
+    one(0xE0);
+    one(0xED);
+    one(0xEE);
+    one(0xEF);
+    two(0xF0, 0x90);
+    two(0xF4, 0x8F);
+    one(0xF0);
+    one(0xF4);
+}
+
+// Bad sequences behind legal bytes.
 fn behind_legal() {
     show(b"a\xC0\x80");
     show(b"\xC3\xA9\xE0\x9F\xBF");
@@ -111,15 +152,26 @@ fn behind_legal() {
     show(b"\xC3\xA9a\xF0\x8F\xBF\xBF");
     show(b"a\xC3\xA9\xF4\x90\x80\x80");
     show(b"\xC3\xA9\xC3\xA9\x80");
+}
+
+// More behind legal bytes: some are cut short.
+fn cut_behind_legal() {
     show(b"a\xF4\x8F\xBF");
-    show(b"\xC3\xA9\xE0\xA0");
-    show(b"\xC3\xA9\xC2");
+    four(0xC3, 0xA9, 0xE0, 0xA0);
+    three(0xC3, 0xA9, 0xC2);
     show(b"a\xC3\xA9\xF0\x90\x80\x80a");
     show(b"\xED\x9F\xBFaa\xFF");
 }
 
 fn main() {
-    ranges();
-    cut_short();
+    few_bytes();
+    three_bytes();
+    surrogates();
+    four_bytes();
+    last_characters();
+    cut_wrong();
+    cut_by_one();
+    cut_more();
     behind_legal();
+    cut_behind_legal();
 }

@@ -1,6 +1,4 @@
--- `Places` is about where the readers stand, `ReadLaws` about what is read there, `TurnLaws` about one turn of `comment`, `LoopLaws` about
--- its loop.
-pub mod Places
-pub mod ReadLaws
+-- `PieceLaws` is about a piece that has ended, `TurnLaws` about one turn of `comment`, `LoopLaws` about its loop.
+pub mod PieceLaws
 pub mod TurnLaws
 pub mod LoopLaws

@@ -19,7 +19,8 @@ use Rattle.described.specs.declared.Read.{Read}
 use Rattle.described.specs.declared.Turned.{Turned}
 use Rattle.described.specs.declared.Turned.the-variants.{Done, Again}
 use Rattle.described.proofs.Turning.{GoesOn, turned-done, turned-again}
-use Rattle.comments.specs.Contracts.{InComment, TurnsAny, ReadsAny}
+use Rattle.line_comments.specs.Contracts.{ReadsAny}
+use Rattle.comments.specs.Contracts.{InComment, TurnsAny}
 
 -- here, in the comment, what is to be read is what was to be read at first
 pub record Going (s : Bytes) (from : ℕ) (first here : Place) : Type 0 where

@@ -24,8 +24,9 @@ use Rattle.described.specs.declared.Place.{Place}
 use Rattle.described.specs.declared.Read.{Read}
 use Rattle.described.specs.declared.Turned.the-variants.{Done, Again}
 use Rattle.described.proofs.Standing.{known-line, known-kept}
-use Rattle.comments.specs.Contracts.{InComment, AtStop, AtMark, Ending, TurnsAny, ReadsAny}
-use Rattle.comments.proofs.Places.{small}
+use Rattle.line_comments.specs.Contracts.{ReadsAny}
+use Rattle.comments.specs.Contracts.{InComment, AtStop, AtMark, Ending, TurnsAny}
+use Rattle.line_comments.proofs.Small.{small}
 
 -- ---- what a turn gives
 

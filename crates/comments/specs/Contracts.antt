@@ -1,5 +1,5 @@
--- What the readers of comments ask, and what they give. A comment reads neither the file's name nor the class file: what is read is the
--- same for all of them.
+-- What the reader of a comment's pieces asks, and what its turns give. A comment reads neither the file's name nor the class file: what
+-- is read is the same for all of them.
 use Prim.Native.Nat.{ℕ, _+_, _≤_}
 use mathlib.Core.Path.{_≡_}
 use mathlib.Core.Bool.{false, _&&_}
@@ -11,15 +11,10 @@ use Rattle.definition.specs.Item.{Step}
 use Rattle.definition.specs.Comment.{run-end, comment-stop}
 use Rattle.definition.specs.declared.State.{State}
 use Rattle.definition.specs.declared.Match.the-variants.{Nothing}
-use Rattle.described.specs.Described.{Reads, Turns}
+use Rattle.described.specs.Described.{Turns}
 use Rattle.described.specs.Standing.{Standing}
 use Rattle.described.specs.declared.Place.{Place}
-use Rattle.described.specs.declared.Read.{Read}
 use Rattle.described.specs.declared.Turned.{Turned}
-
--- r is what the step t gives
-abbrev pub ReadsAny : Bytes → Step → Read → Type 0
-ReadsAny s t r = (name f : Bytes) → Reads s name f t r
 
 -- r is what the turn t gives
 abbrev pub TurnsAny : Bytes → Turn State Step → Turned → Type 0
@@ -45,8 +40,3 @@ pub record AtMark (s : Bytes) (at : Place) : Type 0 where
 pub record Ending (s : Bytes) (to : ℕ) (at : Place) : Type 0 where
   pub standing : Standing s (at .st) (at .known)
   pub within : to ≤ length s
-
--- a reader stands behind what began at `from`
-pub record Behind (s : Bytes) (from : ℕ) (at : Place) : Type 0 where
-  pub standing : Standing s (at .st) (at .known)
-  pub order : from ≤ at .st .offset

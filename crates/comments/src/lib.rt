@@ -1,11 +1,149 @@
-// Comments: the next piece of a comment, and a line's comment.
+// A comment, piece by piece: the source's `comment`, whose recursion is the state's depth. A piece ends where a level of the
+// comment does, or the text.
 //
-// Proved: what `comment` and `line_comment` read is what the definition's functions of the same name give: the item, a
-// payload that describes its bytes, the state, and a column that is known there.
-// Assumed: nothing but what each function's `requires` says: a reader stands in a sound state of a legal text, for
-// `comment` in a comment, for `line_comment` no earlier than where the comment began.
+// Proved: what `comment` reads is what the definition's gives: the item, a payload that describes its bytes, the state, and a
+// column that is known there.
+// Assumed: nothing but what each function's `requires` says: a reader stands in a comment, in a sound state of a legal text.
 // Cost: a comment is read once. A piece whose lines lose bytes is passed over again for their width and for its length; no
 // pass goes back before the piece.
+use definition::Extra;
+use definition::Item;
+use definition::Match;
+use described::Payload;
+use described::Place;
+use described::Read;
+use described::Turned;
+use described::places::moved;
+use described::places::next_line;
+use matchers::names::match_newline;
+use positions::pos_of;
+use scan::bytes::byte_is;
+use scan::stops::after;
+use scan::stops::run_end;
+use state::close_comment;
+use trim::trim_width;
+use trim::trimmed_length;
+ghost use mathlib.Core.Path.{_≡_};
+ghost use mathlib.Core.Bool.{_&&_};
+ghost use Prim.Native.Nat.{_+_};
+ghost use Rattle.definition.specs.Text.{byte-is};
+ghost use Rattle.definition.specs.Comment.{terminate, comment-turn, comment};
+ghost use Rattle.line_comments.specs.Contracts.{ReadsAny};
+ghost use Rattle.comments.specs.Contracts.{InComment, AtStop, AtMark, Ending, TurnsAny};
 
-pub mod pieces; // pieces.rt: a comment, piece by piece
-pub mod lines; // lines.rt: a line's comment
+// Two bytes stand at i.
+fn byte_pair(text: &[u8], i: usize, a: u8, b: u8) -> bool
+    ensures { λ r. ⌜ r ≡ byte-is a (now (text .entry)) i && byte-is b (now (text .entry)) (i + 1) ⌝ }
+{
+    if byte_is(text, i, a) {
+        return byte_is(text, i + 1, b);
+    }
+    false
+}
+
+// The piece that began at byte `from` and whose text ends at byte `to`; the reader stands behind it.
+fn terminate(text: &[u8], from: usize, to: usize, closed: bool, at: Place) -> Read
+    requires { ⌜ Ending (now text) to at ⌝ }
+    ensures { λ r. ⌜ ReadsAny (now (text .entry)) (terminate (now (text .entry)) from to closed (at .st)) r ⌝ }
+{
+    let st = at.st;
+    let known = at.known;
+    let width = trim_width(text, from, to, st.comment.col as usize);
+    let length = trimmed_length(text, from, to, width);
+    let here = pos_of(text, st, known, st.offset);
+    let next = close_comment(st);
+    let sp = st.comment;
+    let ep = here.pos;
+    let item = Item {
+        kind: 0,
+        sp: sp,
+        ep: ep,
+        length: length as u32,
+        comments: next.comments,
+        extra: Extra::Comment(closed),
+    };
+    let payload = Payload::Piece {
+        from: from,
+        to: to,
+        width: width,
+        length: length,
+    };
+    let column = here.known;
+    Read {
+        item: item,
+        payload: payload,
+        next: next,
+        known: column,
+    }
+}
+
+// Where neither a run stands nor a level is opened nor a line ends: a level may be closed, or the text may end; else a
+// single `(` or `*` is passed.
+fn at_mark(text: &[u8], from: usize, at: Place) -> Turned
+    requires { ⌜ AtMark (now text) at ⌝ }
+    ensures { λ r. ⌜ TurnsAny (now (text .entry)) (comment-turn (now (text .entry)) from (at .st)) r ⌝ }
+{
+    let st = at.st;
+    let i = st.offset as usize;
+    if byte_pair(text, i, b'*', b')') {
+        return Turned::Done(terminate(text, from, i, true, moved(at, i + 2)));
+    }
+    if text.len() <= i {
+        return Turned::Done(terminate(text, from, i, false, at));
+    }
+    Turned::Again(moved(at, after(text, i)))
+}
+
+// Where no run of other characters stands: a level may be opened, or a line may end.
+fn at_stop(text: &[u8], from: usize, at: Place) -> Turned
+    requires { ⌜ AtStop (now text) at ⌝ }
+    ensures { λ r. ⌜ TurnsAny (now (text .entry)) (comment-turn (now (text .entry)) from (at .st)) r ⌝ }
+{
+    let st = at.st;
+    let i = st.offset as usize;
+    if byte_pair(text, i, b'(', b'*') {
+        let inside = moved(at, i + 2);
+        let opened = inside.st;
+        let known = inside.known;
+        return Turned::Again(Place {
+            st: opened.deeper(),
+            known: known,
+        });
+    }
+    let Match::To(nl) = match_newline(text, i) else {
+        return at_mark(text, from, at);
+    };
+    Turned::Again(next_line(at, nl))
+}
+
+// One turn of the reading: a run of other characters is passed whole.
+fn comment_turn(text: &[u8], from: usize, at: Place) -> Turned
+    requires { ⌜ InComment (now text) at ⌝ }
+    ensures { λ r. ⌜ TurnsAny (now (text .entry)) (comment-turn (now (text .entry)) from (at .st)) r ⌝ }
+{
+    let st = at.st;
+    let i = st.offset as usize;
+    let j = run_end(text, b'(', b'*', i);
+    if i < j {
+        return Turned::Again(moved(at, j));
+    }
+    at_stop(text, from, at)
+}
+
+// The next piece of the comment that the reader stands in; the piece began at byte `from`.
+pub fn comment(text: &[u8], from: usize, at: Place) -> Read
+    requires { ⌜ InComment (now text) at ⌝ }
+    ensures { λ r. ⌜ ReadsAny (now (text .entry)) (comment (now (text .entry)) from (at .st)) r ⌝ }
+{
+    let mut here = at;
+    loop {
+        match comment_turn(text, from, here) {
+            Turned::Done(r) => {
+                return r;
+            }
+            Turned::Again(next) => {
+                here = next;
+            }
+        }
+    }
+}

@@ -21,7 +21,7 @@ use Rattle.described.specs.declared.Place.{Place}
 use Rattle.described.specs.declared.Payload.{Payload}
 use Rattle.described.specs.declared.Payload.the-variants.{Part}
 use Rattle.described.specs.declared.Read.{Read}
-use Rattle.comments.specs.Contracts.{ReadsAny}
+use Rattle.line_comments.specs.Contracts.{ReadsAny}
 use Rattle.rulings.specs.Rulings.{spanned, Chose, ruling-step, Fits}
 use Rattle.rulings.specs.declared.Ruling.{Ruling}
 use Rattle.rulings.specs.declared.Ruling.the-variants.{Token, Error, LineComment}

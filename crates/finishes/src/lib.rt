@@ -4,7 +4,7 @@
 // rulings are carried out by one `finish`: a token's positions are asked for in one place, whatever its rule.
 // Assumed: nothing but what each function's `requires` says: a reader stands in a sound state of a legal text, the choice
 // ends behind it (`Chose`), and the ruling fits the text (`Fits`).
-use comments::lines::line_comment;
+use line_comments::line_comment;
 use definition::Extra;
 use described::Payload;
 use described::Place;

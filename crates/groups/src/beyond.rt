@@ -1,6 +1,6 @@
 // Characters beyond ASCII: each place reads on behind a character that is decoded already.
 use crate::choice::alone;
-use crate::choice::try_place;
+use attempts::try_place;
 use chars::is_anywhite;
 use chars::is_constructor_start;
 use chars::is_ident_start;

@@ -1,34 +1,13 @@
-// The choice of one place, by itself and after others.
+// The first choice that is tried: of a place, and of a table.
+use attempts::try_place;
 use definition::Choice;
 use definition::Match;
 use words::keep;
 use words::nothing;
 ghost use mathlib.Core.Path.{_≡_};
-ghost use Rattle.definition.specs.Select.{keep, found};
 ghost use Rattle.groups.specs.Groups.{first, alone};
 
-// What a matcher's end is at a place.
-pub fn found(i: usize, place: u32, m: Match) -> Choice
-    ensures { λ r. ⌜ r ≡ found i place 0 m ⌝ }
-{
-    let Match::To(end) = m else {
-        return nothing(i);
-    };
-    Choice {
-        place: place,
-        end: end,
-        word: 0,
-    }
-}
-
-// The source's `try_`, after other places.
-pub fn try_place(best: Choice, i: usize, place: u32, m: Match) -> Choice
-    ensures { λ r. ⌜ r ≡ keep best (found i place 0 m) ⌝ }
-{
-    keep(best, found(i, place, m))
-}
-
-// The same for the first place that is tried.
+// The source's `try_` for the first place that is tried.
 pub fn alone(i: usize, place: u32, m: Match) -> Choice
     ensures { λ r. ⌜ r ≡ alone i place m ⌝ }
 {

@@ -1,6 +1,6 @@
 // Numbers: an integer's digits are read once for all its suffixes, and a fraction's once for reals and bad numbers.
 use crate::choice::alone;
-use crate::choice::try_place;
+use attempts::try_place;
 use definition::Choice;
 use definition::Match;
 use numbers::IntegerEnds;

@@ -1,7 +1,7 @@
 // Names, and what else begins with a letter or an underscore.
 use crate::choice::alone;
 use crate::choice::first;
-use crate::choice::try_place;
+use attempts::try_place;
 use definition::Choice;
 use definition::Match;
 use operator_tokens::op_token;

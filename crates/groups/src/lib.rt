@@ -8,7 +8,7 @@
 // operator and of symbol characters, and a byte at the offset.
 
 pub mod beyond; // beyond.rt: characters beyond ASCII
-pub mod choice; // choice.rt: the choice of one place, by itself and after others
+pub mod choice; // choice.rt: the first choice that is tried
 pub mod digits; // digits.rt: numbers
 pub mod letters; // letters.rt: names, and what else begins with a letter
 pub mod operators; // operators.rt: operators and brackets

@@ -1,8 +1,8 @@
 // Operators and brackets.
 use crate::choice::alone;
 use crate::choice::first;
-use crate::choice::try_place;
 use crate::quotes::lit_then_ident;
+use attempts::try_place;
 use definition::Choice;
 use definition::Match;
 use operator_tokens::mixfix_word;

@@ -1,8 +1,8 @@
 // The three quotes.
 use crate::choice::alone;
 use crate::choice::first;
-use crate::choice::try_place;
 use crate::letters::name_behind;
+use attempts::try_place;
 use definition::Choice;
 use definition::Match;
 use matchers::names::match_ident;

@@ -1,5 +1,5 @@
 // White space and line ends of ASCII.
-use crate::choice::found;
+use attempts::found;
 use definition::Choice;
 use matchers::names::match_newline;
 use scan::runs::plus_anywhite;

@@ -10,8 +10,8 @@ use Rattle.definition.specs.Text.{lexeme}
 use Rattle.definition.specs.Utf8.{encode}
 use Rattle.lemmas.specs.Over.{over, Wrote}
 use Rattle.escapes.specs.Contracts.{Encodes}
-use Rattle.strings.specs.declared.Move.{Move}
-use Rattle.strings.specs.Literal.{adds, Past, Fewer}
+use Rattle.string_moves.specs.declared.Move.{Move}
+use Rattle.string_moves.specs.Ends.{Past, Fewer, adds}
 use Rattle.literals.specs.Contracts.{Copies}
 
 -- a part that is added can be copied

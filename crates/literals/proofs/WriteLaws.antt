@@ -11,11 +11,12 @@ use Rattle.lemmas.specs.Over.{over, Wrote}
 use Rattle.lemmas.proofs.Over.{length-over}
 use Rattle.described.specs.declared.Payload.the-variants.{Literal}
 use Rattle.described.specs.Described.{literal, Describes}
-use Rattle.strings.specs.declared.Move.{Move}
-use Rattle.strings.specs.declared.Move.the-variants.{Copy, Skip, Line, Char, Surrogate, Close, Open}
-use Rattle.strings.specs.Moves.{string-move}
-use Rattle.strings.specs.Literal.{adds, ends-at, On, Goes, literal-from}
-use Rattle.strings.proofs.Goes.{move-goes}
+use Rattle.string_moves.specs.declared.Move.{Move}
+use Rattle.string_moves.specs.declared.Move.the-variants.{Copy, Skip, Line, Char, Surrogate, Close, Open}
+use Rattle.string_moves.specs.Moves.{string-move}
+use Rattle.string_moves.specs.Ends.{adds, ends-at, On, Goes}
+use Rattle.string_moves.proofs.Goes.{move-goes}
+use Rattle.strings.specs.Literal.{literal-from}
 use Rattle.strings.proofs.LiteralLaws.{literal-starts, literal-on, literal-closed, literal-surrogate, literal-open}
 use Rattle.strings.proofs.Growth.{literal-grows, grows-longer, grows-ends}
 use Rattle.strings.proofs.LoopLaws.{on-past}

@@ -5,8 +5,8 @@ use lib.ListN.{length}
 use Rattle.definition.specs.Basics.{Bytes}
 use Rattle.definition.specs.ClassFile.{class-check}
 use Rattle.described.specs.Described.{literal}
-use Rattle.strings.specs.declared.Move.{Move}
-use Rattle.strings.specs.Literal.{adds, Goes}
+use Rattle.string_moves.specs.declared.Move.{Move}
+use Rattle.string_moves.specs.Ends.{Goes, adds}
 
 -- the part from i up to e lies in the text and fits
 pub record Copies (s : Bytes) (i e : ℕ) (out : Bytes) : Type 0 where

@@ -4,14 +4,14 @@
 // Assumed: nothing but what the `requires` says: the class file is accepted, the length is the literal's, and it fits.
 use described::span;
 use escapes::encode_into;
-use strings::Move;
-use strings::end_of;
-use strings::string_move;
+use string_moves::Move;
+use string_moves::end_of;
+use string_moves::string_move;
 ghost use mathlib.Core.Path.{_≡_};
 ghost use Rattle.definition.specs.Text.{lexeme};
 ghost use Rattle.lemmas.specs.Over.{over, Wrote};
 ghost use Rattle.described.specs.Described.{literal};
-ghost use Rattle.strings.specs.Literal.{adds};
+ghost use Rattle.string_moves.specs.Ends.{adds};
 ghost use Rattle.literals.specs.Contracts.{Copies, Puts, Writes};
 
 // Copies the bytes of the text from i up to e to the front of the buffer, and says how many they are.

@@ -16,9 +16,11 @@ use crate::spelled::at_minus;
 use crate::spelled::at_paren;
 use crate::spelled::at_point;
 use crate::spelled::at_question;
+use crate::spelled::at_returns;
 use crate::spelled::at_tilde;
 use crate::spelled::mixfix;
-use crate::spelled::only_token;
+use crate::spelled::only_byte;
+use crate::spelled::only_pair;
 use definition::Choice;
 use scan::bytes::byte_is;
 use words::nothing;
@@ -36,30 +38,30 @@ pub fn op_token(text: &[u8], i: usize) -> Choice
     }
     let first = text[i];
     match first {
-        b'!' => only_token(text, i, b"!{", 39),
-        b'#' => only_token(text, i, b"#", 9),
+        b'!' => only_pair(text, i, b'!', b'{', 39),
+        b'#' => only_byte(text, i, b'#', 9),
         b'$' => at_dollar(text, i),
-        b'%' => only_token(text, i, b"%[", 37),
-        b'&' => only_token(text, i, b"&", 11),
+        b'%' => only_pair(text, i, b'%', b'[', 37),
+        b'&' => only_byte(text, i, b'&', 11),
         b'(' => at_paren(text, i),
-        b')' => only_token(text, i, b")", 14),
-        b',' => only_token(text, i, b",", 15),
+        b')' => only_byte(text, i, b')', 14),
+        b',' => only_byte(text, i, b',', 15),
         b'-' => at_minus(text, i),
         b'.' => at_point(text, i),
-        b'/' => only_token(text, i, b"/\\", 2),
+        b'/' => only_pair(text, i, b'/', b'\\', 2),
         b':' => at_colon(text, i),
-        b';' => only_token(text, i, b";", 35),
+        b';' => only_byte(text, i, b';', 35),
         b'<' => at_less(text, i),
         b'=' => at_equals(text, i),
         b'?' => at_question(text, i),
         b'[' => at_bracket(text, i),
-        b'\\' => only_token(text, i, b"\\/", 3),
-        b']' => only_token(text, i, b"]", 47),
-        b'r' => only_token(text, i, b"returns$", 38),
-        b'u' => only_token(text, i, b"u#", 10),
+        b'\\' => only_pair(text, i, b'\\', b'/', 3),
+        b']' => only_byte(text, i, b']', 47),
+        b'r' => at_returns(text, i),
+        b'u' => only_pair(text, i, b'u', b'#', 10),
         b'{' => at_brace(text, i),
         b'|' => at_bar(text, i),
-        b'}' => only_token(text, i, b"}", 52),
+        b'}' => only_byte(text, i, b'}', 52),
         b'~' => at_tilde(text, i),
         _ => nothing(i),
     }

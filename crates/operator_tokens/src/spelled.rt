@@ -37,11 +37,25 @@ pub fn try_word(
     )
 }
 
-// An operator token by itself.
-pub fn only_token(text: &[u8], i: usize, word: &[u8], number: usize) -> Choice
-    ensures { λ r. ⌜ r ≡ try-rows i 36 (λ w. match-lit (now (text .entry)) w i) ((number, now (word .entry)) ∷ []) (none-at i) ⌝ }
+// An operator token of one byte, by itself. The byte is a parameter: a `match` whose arms have byte strings takes the checker long.
+pub fn only_byte(text: &[u8], i: usize, a: u8, number: usize) -> Choice
+    ensures { λ r. ⌜ r ≡ try-rows i 36 (λ w. match-lit (now (text .entry)) w i) ((number, a ∷ []) ∷ []) (none-at i) ⌝ }
 {
-    try_word(nothing(i), text, i, 36, word, number)
+    try_word(nothing(i), text, i, 36, &[a], number)
+}
+
+// An operator token of two bytes, by itself.
+pub fn only_pair(text: &[u8], i: usize, a: u8, b: u8, number: usize) -> Choice
+    ensures { λ r. ⌜ r ≡ try-rows i 36 (λ w. match-lit (now (text .entry)) w i) ((number, a ∷ b ∷ []) ∷ []) (none-at i) ⌝ }
+{
+    try_word(nothing(i), text, i, 36, &[a, b], number)
+}
+
+// The token that begins with `r`.
+pub fn at_returns(text: &[u8], i: usize) -> Choice
+    ensures { λ r. ⌜ r ≡ try-rows i 36 (λ w. match-lit (now (text .entry)) w i) (tokens-at (ch "r")) (none-at i) ⌝ }
+{
+    try_word(nothing(i), text, i, 36, b"returns$", 38)
 }
 
 // The tokens that begin with `$`.

@@ -23,7 +23,8 @@ use Rattle.described.specs.Places.{moved}
 use Rattle.described.specs.declared.Place.{Place}
 use Rattle.described.specs.declared.Read.{Read}
 use Rattle.described.proofs.Standing.{known-kept, known-asked}
-use Rattle.comments.specs.Contracts.{InComment, Behind, ReadsAny}
+use Rattle.line_comments.specs.Contracts.{Behind, ReadsAny}
+use Rattle.comments.specs.Contracts.{InComment}
 use Rattle.strings.specs.Contracts.{Reader}
 use Rattle.blobs.specs.Contents.{header-of, InBlob}
 use Rattle.blobs.specs.declared.Header.{Header}

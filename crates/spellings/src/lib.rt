@@ -4,50 +4,16 @@
 // square. They are a crate of their own, so that a change of the look-ups does not have them checked again.
 // Proved: `is_word` is the definition's test of the lexeme against the word that its tables have at k. Assumed: nothing but
 // what each function's `requires` says.
+use same_bytes::four;
+use same_bytes::spells;
+use same_bytes::three;
+use same_bytes::two;
 ghost use mathlib.Core.Path.{_≡_};
 ghost use Prim.Native.Nat.{_≤_, _<_};
-ghost use mathlib.Core.List.{[], _∷_};
+ghost use mathlib.Core.List.{[]};
 ghost use lib.ListN.{getD};
 ghost use Rattle.definition.specs.Basics.{same};
 ghost use Rattle.spellings.specs.Words.{words};
-
-// Whether a lexeme is this word.
-fn spells(id: &[u8], word: &[u8]) -> bool
-    ensures { λ r. ⌜ r ≡ same (now (word .entry)) (now (id .entry)) ⌝ }
-{
-    if id.len() != word.len() {
-        return false;
-    }
-    let mut i = 0;
-    while i < word.len() {
-        if id[i] != word[i] {
-            return false;
-        }
-        i += 1;
-    }
-    true
-}
-
-// Whether a lexeme is these two bytes.
-fn two(id: &[u8], a: u8, b: u8) -> bool
-    ensures { λ r. ⌜ r ≡ same (a ∷ b ∷ []) (now (id .entry)) ⌝ }
-{
-    spells(id, &[a, b])
-}
-
-// Whether a lexeme is these three bytes.
-fn three(id: &[u8], a: u8, b: u8, c: u8) -> bool
-    ensures { λ r. ⌜ r ≡ same (a ∷ b ∷ c ∷ []) (now (id .entry)) ⌝ }
-{
-    spells(id, &[a, b, c])
-}
-
-// Whether a lexeme is these four bytes.
-fn four(id: &[u8], a: u8, b: u8, c: u8, d: u8) -> bool
-    ensures { λ r. ⌜ r ≡ same (a ∷ b ∷ c ∷ d ∷ []) (now (id .entry)) ⌝ }
-{
-    spells(id, &[a, b, c, d])
-}
 
 // Whether word k, of the keywords 0 to 4, is the lexeme.
 fn from_0(id: &[u8], k: usize) -> bool

@@ -33,7 +33,7 @@ use Rattle.described.specs.declared.Turned.{Turned}
 use Rattle.described.specs.declared.Turned.the-variants.{Done, Again}
 use Rattle.described.proofs.Standing.{known-asked, known-kept}
 use Rattle.described.proofs.Turning.{turned-done, turned-again}
-use Rattle.comments.specs.Contracts.{ReadsAny}
+use Rattle.line_comments.specs.Contracts.{ReadsAny}
 use Rattle.rules.specs.Ruling.{rule-of}
 use Rattle.rules.specs.Acting.{Acts}
 use Rattle.rules.proofs.RuleLaws.{chose, by-rule, moved-turns, line-turns}

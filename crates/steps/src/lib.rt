@@ -8,7 +8,7 @@
 pub mod white; // white.rt: white space and line ends before a turn
 
 use crate::white::behind_white;
-use comments::pieces::comment;
+use comments::comment;
 use definition::Extra;
 use described::Payload;
 use described::Place;

@@ -13,9 +13,9 @@ use Rattle.definition.specs.Strings.{string-turn}
 use Rattle.definition.specs.declared.State.{State}
 use Rattle.lemmas.proofs.Loops.{Leads, loop-keeps}
 use Rattle.progress.proofs.Literals.{string-from}
-use Rattle.strings.specs.declared.Move.{Move}
-use Rattle.strings.specs.declared.Move.the-variants.{Copy, Skip, Line, Char, Surrogate, Close, Open}
-use Rattle.strings.specs.Moves.{string-move}
+use Rattle.string_moves.specs.declared.Move.{Move}
+use Rattle.string_moves.specs.declared.Move.the-variants.{Copy, Skip, Line, Char, Surrogate, Close, Open}
+use Rattle.string_moves.specs.Moves.{string-move}
 use Rattle.strings.specs.Literal.{does, literal-from}
 use Rattle.strings.proofs.TurnLaws.{turn-does}
 

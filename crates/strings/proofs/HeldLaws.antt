@@ -10,10 +10,11 @@ use Rattle.definition.specs.Basics.{Bytes}
 use Rattle.definition.specs.Text.{lexeme}
 use Rattle.definition.specs.Utf8.{encode}
 use Rattle.lemmas.proofs.Lists.{slice-then-drop}
-use Rattle.strings.specs.declared.Move.{Move}
-use Rattle.strings.specs.declared.Move.the-variants.{Copy, Skip, Line, Char, Surrogate, Close, Open}
-use Rattle.strings.specs.Moves.{string-move}
-use Rattle.strings.specs.Literal.{Past, Goes, adds, ends-at, On, literal-from, Held}
+use Rattle.string_moves.specs.declared.Move.{Move}
+use Rattle.string_moves.specs.declared.Move.the-variants.{Copy, Skip, Line, Char, Surrogate, Close, Open}
+use Rattle.string_moves.specs.Moves.{string-move}
+use Rattle.string_moves.specs.Ends.{Past, Goes, adds, ends-at, On}
+use Rattle.strings.specs.Literal.{literal-from, Held}
 use Rattle.strings.proofs.LiteralLaws.{literal-starts, literal-on}
 
 -- a part and the part behind it

@@ -13,10 +13,11 @@ use Rattle.definition.specs.declared.State.{State}
 use Rattle.lemmas.proofs.Loops.{says}
 use Rattle.progress.proofs.Literals.{string-from, string-unroll, string-is}
 use Rattle.described.specs.Described.{literal}
-use Rattle.strings.specs.declared.Move.{Move}
-use Rattle.strings.specs.declared.Move.the-variants.{Copy, Skip, Line, Char, Surrogate, Close, Open}
-use Rattle.strings.specs.Moves.{string-move}
-use Rattle.strings.specs.Literal.{adds, ends-at, On, does, literal-from}
+use Rattle.string_moves.specs.declared.Move.{Move}
+use Rattle.string_moves.specs.declared.Move.the-variants.{Copy, Skip, Line, Char, Surrogate, Close, Open}
+use Rattle.string_moves.specs.Moves.{string-move}
+use Rattle.string_moves.specs.Ends.{adds, ends-at, On}
+use Rattle.strings.specs.Literal.{does, literal-from}
 use Rattle.strings.proofs.TurnLaws.{turn-does}
 
 -- ---- two loops, turn by turn

@@ -22,13 +22,14 @@ use Rattle.described.specs.declared.Read.{Read}
 use Rattle.described.specs.declared.Turned.the-variants.{Done, Again}
 use Rattle.described.specs.Described.{Known-at, Reads, Turns}
 use Rattle.described.specs.Standing.{Standing}
-use Rattle.strings.specs.declared.Move.{Move}
-use Rattle.strings.specs.declared.Move.the-variants.{Copy, Skip, Line, Char, Surrogate, Close, Open}
-use Rattle.strings.specs.Moves.{string-move}
-use Rattle.strings.specs.Literal.{Past, Goes, adds, added, ends-at, On, does, states, Held}
+use Rattle.string_moves.specs.declared.Move.{Move}
+use Rattle.string_moves.specs.declared.Move.the-variants.{Copy, Skip, Line, Char, Surrogate, Close, Open}
+use Rattle.string_moves.specs.Moves.{string-move}
+use Rattle.string_moves.specs.Ends.{Past, Goes, adds, added, ends-at, On}
+use Rattle.strings.specs.Literal.{does, states, Held}
 use Rattle.strings.specs.Contracts.{Safe, Turning, Reader}
 use Rattle.strings.proofs.TurnLaws.{turn-does}
-use Rattle.strings.proofs.Goes.{move-goes}
+use Rattle.string_moves.proofs.Goes.{move-goes}
 use Rattle.strings.proofs.HeldLaws.{held-starts, held-on}
 
 -- how many bytes a move adds

@@ -24,7 +24,7 @@ use Rattle.described.specs.Described.{literal, Sized, Describes, Known-at, Read
 use Rattle.described.specs.Places.{moved, next-line}
 use Rattle.described.specs.Standing.{Standing}
 use Rattle.described.proofs.Standing.{known-asked, known-kept, known-line, position-kept}
-use Rattle.strings.specs.declared.Move.{Move}
+use Rattle.string_moves.specs.declared.Move.{Move}
 use Rattle.strings.specs.Literal.{closed, does, states, Held}
 use Rattle.strings.specs.Contracts.{Closing}
 

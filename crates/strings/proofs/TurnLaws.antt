@@ -14,7 +14,7 @@ use Rattle.definition.specs.declared.State.{State}
 use Rattle.definition.specs.declared.Match.{Match}
 use Rattle.definition.specs.declared.Match.the-variants.{To, Nothing}
 use Rattle.lemmas.proofs.Cases.{by-found, by-outcome}
-use Rattle.strings.specs.Moves.{escape-move, last-move, stop-move, broken-line, string-move}
+use Rattle.string_moves.specs.Moves.{escape-move, last-move, stop-move, broken-line, string-move}
 use Rattle.strings.specs.Literal.{does}
 
 -- The turn, case by case.

@@ -12,7 +12,7 @@ use Rattle.lemmas.proofs.Loops.{Leads}
 use Rattle.state.specs.Sound.{Stands}
 use Rattle.described.specs.Standing.{Standing}
 use Rattle.described.specs.declared.Place.{Place}
-use Rattle.strings.specs.declared.Move.{Move}
+use Rattle.string_moves.specs.declared.Move.{Move}
 use Rattle.strings.specs.Literal.{does, states}
 
 -- where a move leads is a place to stand

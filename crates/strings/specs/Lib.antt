@@ -1,3 +1,2 @@
-pub mod Moves
 pub mod Literal
 pub mod Contracts

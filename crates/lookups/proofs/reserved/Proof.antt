@@ -2,7 +2,7 @@
 use native.Mathlib.Omega.{arith}
 use Prim.Native.Nat.{_-_}
 use borrow.Author.Needs.{needs}
-use Rattle.spellings.proofs.Prefix.{Agrees, agrees-starts, agrees-goes-on, agrees-stops, agrees-short, agrees-ends}
+use Rattle.same_bytes.proofs.Prefix.{Agrees, agrees-starts, agrees-goes-on, agrees-stops, agrees-short, agrees-ends}
 use Rattle.lookups.proofs.Prefix.{letters, decided}
 use Rattle.lookups.proofs.reserved.Statement.{statement}
 use Rattle.lookups.proofs.reserved.Tie as tie

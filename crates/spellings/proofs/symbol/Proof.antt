@@ -2,7 +2,7 @@
 use Rattle.definition.specs.Utf8.{encode, encode-all}
 use Rattle.definition.specs.Tables.{cps, keywords, constructors, uoperators}
 use Rattle.spellings.specs.Words.{words}
-use Rattle.spellings.proofs.WordLaws.{none-left}
+use Rattle.same_bytes.proofs.WordLaws.{none-left}
 use Rattle.spellings.proofs.symbol.Statement.{statement}
 use Rattle.spellings.proofs.symbol.Tie as tie
 

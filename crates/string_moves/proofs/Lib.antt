@@ -1,0 +1,3 @@
+pub mod MoveLaws
+pub mod EscapeLaws
+pub mod Goes
