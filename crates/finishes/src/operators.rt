@@ -6,7 +6,7 @@ use definition::Extra;
 use described::Payload;
 use described::Place;
 use described::Read;
-use scan::bytes::no_comment;
+use peeks::no_comment;
 use words::kw_op_kind;
 use words::kw_op_length;
 use words::kw_op_plain_kind;

@@ -10,7 +10,7 @@ use numbers::floatp_after;
 use numbers::real_after;
 use numbers::suffix_after;
 use numbers::usuffix_after;
-use scan::bytes::later;
+use peeks::later;
 ghost use mathlib.Core.Path.{_≡_};
 ghost use Rattle.definition.specs.ClassFile.{class-check};
 ghost use Rattle.definition.specs.Matchers.{later, match-int-suffix, match-int-usuffix};

@@ -8,7 +8,7 @@ use definition::Match;
 use matchers::names::match_ident;
 use matchers::quotes::match_backtick_ident;
 use matchers::quotes::match_char_lit;
-use scan::bytes::match_lit;
+use peeks::match_lit;
 use words::early_literal;
 ghost use mathlib.Core.Path.{_≡_};
 ghost use Prim.Native.Nat.{_<_};

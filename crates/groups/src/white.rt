@@ -2,7 +2,7 @@
 use crate::choice::found;
 use definition::Choice;
 use matchers::names::match_newline;
-use scan::runs::plus_anywhite;
+use scan::plus_anywhite;
 ghost use mathlib.Core.Path.{_≡_};
 ghost use Rattle.definition.specs.ClassFile.{class-check};
 ghost use Rattle.definition.specs.Chars.{is-anywhite};

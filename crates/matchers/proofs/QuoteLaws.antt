@@ -29,7 +29,7 @@ use Rattle.progress.proofs.Ends.{Ends}
 use Rattle.progress.proofs.Matches.{backtick-leads}
 use Rattle.progress.proofs.Scans.{backtick-from, backtick-unroll, backtick-is}
 use Rattle.matchers.specs.Parts.{hex-pair, in-backticks, backtick-part}
-use Rattle.scan.proofs.ByteLaws.{has-within, has-past}
+use Rattle.peeks.proofs.ByteLaws.{has-within, has-past}
 use Rattle.scan.proofs.RunLaws.{one-no, no-char}
 
 -- ---- escapes

@@ -30,7 +30,7 @@ use Rattle.definition.specs.declared.Match.{Match}
 use Rattle.definition.specs.declared.Match.the-variants.{To, Nothing}
 use Rattle.numbers.specs.declared.IntegerEnds.{IntegerEnds}
 use Rattle.numbers.specs.Parts.{integer-ends, usuffix, point, fraction, exponent, exponent-behind, real-end, short-exponent, short-float, bad-number-behind}
-use Rattle.scan.proofs.ByteLaws.{later-nothing}
+use Rattle.peeks.proofs.ByteLaws.{later-nothing}
 use Rattle.longest.proofs.ThreeEnds.{three-ends}
 
 -- ---- matchers put together, from what their parts found

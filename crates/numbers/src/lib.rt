@@ -4,18 +4,18 @@
 // Assumed: nothing but what each function's `requires` says: a class file that `class_check` accepts where a class is
 // asked.
 use definition::Match;
-use scan::bytes::byte_either;
-use scan::bytes::byte_is;
-use scan::bytes::later;
-use scan::bytes::lit_after;
-use scan::bytes::match_lit;
-use scan::runs::digit_at;
-use scan::runs::plus_binary;
-use scan::runs::plus_digit;
-use scan::runs::plus_hex;
-use scan::runs::plus_ident_char;
-use scan::runs::plus_octal;
-use scan::runs::star_digit;
+use peeks::byte_either;
+use peeks::byte_is;
+use peeks::later;
+use peeks::lit_after;
+use peeks::match_lit;
+use scan::digit_at;
+use scan::plus_binary;
+use scan::plus_digit;
+use scan::plus_hex;
+use scan::plus_ident_char;
+use scan::plus_octal;
+use scan::star_digit;
 ghost use mathlib.Core.Path.{_≡_};
 ghost use Rattle.definition.specs.ClassFile.{class-check};
 ghost use Rattle.definition.specs.Chars.{is-ident-char};

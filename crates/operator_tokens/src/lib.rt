@@ -20,7 +20,7 @@ use crate::spelled::at_tilde;
 use crate::spelled::mixfix;
 use crate::spelled::only_token;
 use definition::Choice;
-use scan::bytes::byte_is;
+use peeks::byte_is;
 use words::nothing;
 ghost use mathlib.Core.Path.{_≡_};
 ghost use Rattle.definition.specs.Tables.{op-tokens, mixfix-rules};

@@ -1,7 +1,7 @@
 -- `u_lit_after` goes on from an end that was found, if a u stands there.
 use mathlib.Core.Path.{sym, _∙_}
 use Rattle.numbers.specs.Parts.{usuffix}
-use Rattle.scan.proofs.ByteLaws.{has-inside}
+use Rattle.peeks.proofs.ByteLaws.{has-inside}
 use borrow.Author.Needs.{needs}
 use native.Mathlib.Omega.{arith}
 use Rattle.numbers.proofs.u_lit_after.Statement.{statement}

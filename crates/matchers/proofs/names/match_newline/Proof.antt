@@ -2,7 +2,7 @@
 use mathlib.Core.Path.{sym, _∙_}
 use borrow.Author.Tests.{not-true, not-false}
 use Rattle.text.proofs.Character.{char-read, char-within}
-use Rattle.scan.proofs.ByteLaws.{has-inside}
+use Rattle.peeks.proofs.ByteLaws.{has-inside}
 use Rattle.matchers.proofs.NameLaws.{newline-other, newline-no, newline-one, newline-two, newline-return}
 use borrow.Author.Needs.{needs}
 use native.Mathlib.Omega.{arith}

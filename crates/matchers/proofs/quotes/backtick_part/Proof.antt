@@ -1,6 +1,6 @@
 -- `backtick_part` looks behind a backtick, which is in no part itself.
 use mathlib.Core.Path.{sym, _∙_}
-use Rattle.scan.proofs.ByteLaws.{has-inside}
+use Rattle.peeks.proofs.ByteLaws.{has-inside}
 use Rattle.matchers.proofs.QuoteLaws.{part-tick, part-other}
 use borrow.Author.Needs.{needs}
 use native.Mathlib.Omega.{arith}

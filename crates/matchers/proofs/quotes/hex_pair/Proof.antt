@@ -1,7 +1,7 @@
 -- `hex_pair` is the conjunction of two tests; where the first passes, the offset after i is at most the text's end.
 use mathlib.Core.Path.{sym, _∙_}
 use Rattle.matchers.specs.Parts.{hex-pair}
-use Rattle.scan.proofs.ByteLaws.{has-inside}
+use Rattle.peeks.proofs.ByteLaws.{has-inside}
 use borrow.Author.Needs.{needs}
 use native.Mathlib.Omega.{arith}
 use Rattle.matchers.proofs.quotes.hex_pair.Statement.{statement}

@@ -5,7 +5,7 @@ use mathlib.Core.Path.{_≡_, refl, sym, _∙_}
 use lib.ListN.{length}
 use borrow.Author.Tests.{not-true, not-false}
 use Rattle.progress.proofs.Scans.{backtick-from}
-use Rattle.scan.proofs.ByteLaws.{twice-inside}
+use Rattle.peeks.proofs.ByteLaws.{twice-inside}
 use Rattle.matchers.proofs.QuoteLaws.{ident-on, ident-no, ident-empty, ident-open, ident-found, part-past}
 use borrow.Author.Needs.{needs}
 use native.Mathlib.Omega.{arith}

@@ -3,7 +3,7 @@
 use mathlib.Core.Path.{sym, _∙_}
 use borrow.Author.Tests.{not-true, not-false}
 use Rattle.definition.specs.Matchers.{match-escape}
-use Rattle.scan.proofs.ByteLaws.{has-inside}
+use Rattle.peeks.proofs.ByteLaws.{has-inside}
 use Rattle.matchers.proofs.QuoteLaws.{escape-at, escape-past, rest-letter, rest-none, rest-x, rest-neither, rest-u, rest-short}
 use borrow.Author.Needs.{needs}
 use native.Mathlib.Omega.{arith}
