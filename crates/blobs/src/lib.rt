@@ -16,7 +16,7 @@ use described::places::moved;
 use described::places::next_line;
 use described::span;
 use described::tokens::error_here;
-use matchers::names::match_newline;
+use matchers::match_newline;
 use peeks::match_lit;
 use positions::Cache;
 use positions::pos_of;

@@ -9,7 +9,7 @@ use described::Read;
 use described::Turned;
 use described::places::moved;
 use described::places::next_line;
-use matchers::names::match_newline;
+use matchers::match_newline;
 use peeks::byte_is;
 use positions::pos_of;
 use state::close_comment;

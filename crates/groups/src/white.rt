@@ -1,7 +1,7 @@
 // White space and line ends of ASCII.
 use crate::choice::found;
 use definition::Choice;
-use matchers::names::match_newline;
+use matchers::match_newline;
 use scan::plus_anywhite;
 ghost use mathlib.Core.Path.{_≡_};
 ghost use Rattle.definition.specs.ClassFile.{class-check};

@@ -9,7 +9,7 @@ use definition::Match;
 use described::Place;
 use described::places::moved;
 use described::places::next_line;
-use matchers::names::match_newline;
+use matchers::match_newline;
 use peeks::byte_either;
 use scan::star_anywhite;
 ghost use mathlib.Core.Path.{_≡_};
