@@ -1,8 +1,8 @@
 -- `match_integer` is a run of digits.
 use Rattle.definition.specs.Matchers.{match-integer}
 use borrow.Author.Needs.{needs}
-use Rattle.numbers.proofs.match_integer.Statement.{statement}
-use Rattle.numbers.proofs.match_integer.Tie as tie
+use Rattle.integers.proofs.match_integer.Statement.{statement}
+use Rattle.integers.proofs.match_integer.Tie as tie
 
 plus-digit-requires : tie.Need-plus-digit-requires
 plus-digit-requires c κs = search needs

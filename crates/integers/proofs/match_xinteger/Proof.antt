@@ -5,8 +5,8 @@ use Rattle.definition.specs.Matchers.{match-xinteger}
 use Rattle.peeks.proofs.ByteLaws.{has-inside}
 use borrow.Author.Needs.{needs}
 use native.Mathlib.Omega.{arith}
-use Rattle.numbers.proofs.match_xinteger.Statement.{statement}
-use Rattle.numbers.proofs.match_xinteger.Tie as tie
+use Rattle.integers.proofs.match_xinteger.Statement.{statement}
+use Rattle.integers.proofs.match_xinteger.Tie as tie
 
 byte-is-requires : tie.Need-byte-is-requires
 byte-is-requires c κs = search needs

@@ -1,8 +1,8 @@
 -- `any_integer_ends` holds what its two callees find.
-use Rattle.numbers.proofs.NumberLaws.{ends-are}
+use Rattle.integers.proofs.IntegerLaws.{ends-are}
 use borrow.Author.Needs.{needs}
-use Rattle.numbers.proofs.any_integer_ends.Statement.{statement}
-use Rattle.numbers.proofs.any_integer_ends.Tie as tie
+use Rattle.integers.proofs.any_integer_ends.Statement.{statement}
+use Rattle.integers.proofs.any_integer_ends.Tie as tie
 
 match-integer-requires : tie.Need-match-integer-requires
 match-integer-requires c κs = search needs

@@ -1,8 +1,8 @@
 -- `suffix_after` is the later of what is found behind each end.
-use Rattle.numbers.proofs.NumberLaws.{later-of}
+use Rattle.integers.proofs.IntegerLaws.{later-of}
 use borrow.Author.Needs.{needs}
-use Rattle.numbers.proofs.suffix_after.Statement.{statement}
-use Rattle.numbers.proofs.suffix_after.Tie as tie
+use Rattle.integers.proofs.suffix_after.Statement.{statement}
+use Rattle.integers.proofs.suffix_after.Tie as tie
 
 lit-after-requires : tie.Need-lit-after-requires
 lit-after-requires c κs = search needs

@@ -1,8 +1,8 @@
 -- `usuffix_after` is the later of what is found behind each end.
-use Rattle.numbers.proofs.NumberLaws.{later-of}
+use Rattle.integers.proofs.IntegerLaws.{later-of}
 use borrow.Author.Needs.{needs}
-use Rattle.numbers.proofs.usuffix_after.Statement.{statement}
-use Rattle.numbers.proofs.usuffix_after.Tie as tie
+use Rattle.integers.proofs.usuffix_after.Statement.{statement}
+use Rattle.integers.proofs.usuffix_after.Tie as tie
 
 u-lit-after-requires : tie.Need-u-lit-after-requires
 u-lit-after-requires c κs = search needs

@@ -1,11 +1,11 @@
 -- `u_lit_after` goes on from an end that was found, if a u stands there.
 use mathlib.Core.Path.{sym, _∙_}
-use Rattle.numbers.specs.Parts.{usuffix}
+use Rattle.integers.specs.Parts.{usuffix}
 use Rattle.peeks.proofs.ByteLaws.{has-inside}
 use borrow.Author.Needs.{needs}
 use native.Mathlib.Omega.{arith}
-use Rattle.numbers.proofs.u_lit_after.Statement.{statement}
-use Rattle.numbers.proofs.u_lit_after.Tie as tie
+use Rattle.integers.proofs.u_lit_after.Statement.{statement}
+use Rattle.integers.proofs.u_lit_after.Tie as tie
 
 enum-known-m : tie.Need-enum-known-m
 enum-known-m c = search needs
