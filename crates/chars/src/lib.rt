@@ -1,13 +1,13 @@
 // The tests on characters, in the source's order. An ASCII character is never looked up in a class. Proved: each is the
 // definition's test; those that read a class file are so for any file that the class check accepts.
 // Assumed: nothing but what each function's `requires` says.
-use classes::member::is_lm;
-use classes::member::is_lo;
-use classes::member::is_lt;
-use classes::member::is_lu;
-use classes::member::is_sm;
-use classes::member::is_zs;
 use lowercase::is_ll;
+use members::is_lm;
+use members::is_lo;
+use members::is_lt;
+use members::is_lu;
+use members::is_sm;
+use members::is_zs;
 ghost use mathlib.Core.Path.{_≡_};
 ghost use Rattle.definition.specs.Basics.{between as between-codes};
 ghost use Rattle.definition.specs.ClassFile.{class-check};
