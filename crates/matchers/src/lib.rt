@@ -6,9 +6,9 @@
 // asked.
 use chars::is_constructor_start;
 use chars::is_ident_start;
-use chars::is_newline_char;
 use definition::Match;
 use definition::Sequence;
+use fixed_chars::is_newline_char;
 use peeks::byte_is;
 use scan::star_ident_char;
 use text::sequence_at;

@@ -3,10 +3,10 @@
 //
 // Proved: the answer of each public function is what the definition gives, at any offset of any bytes.
 // Assumed: nothing.
-use chars::is_newline_char;
 use definition::Match;
 use definition::Octet;
 use definition::Sequence;
+use fixed_chars::is_newline_char;
 use peeks::byte_is;
 use peeks::byte_twice;
 use scan::hex_at;

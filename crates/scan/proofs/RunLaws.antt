@@ -24,7 +24,7 @@ use Rattle.definition.specs.declared.Sequence.the-variants.{Char, Bad, End}
 use Rattle.definition.specs.declared.Match.{Match}
 use Rattle.definition.specs.declared.Match.the-variants.{To, Nothing}
 use Rattle.lemmas.proofs.Cases.{tests, by-outcome, by-lt}
-use Rattle.chars.specs.Parts.{ascii-ident-char}
+use Rattle.fixed_chars.specs.Parts.{ascii-ident-char}
 use Rattle.text.proofs.Reading.{read-end, No-char, with-none}
 use Rattle.text.proofs.Character.{char-read, char-within}
 use Rattle.text.proofs.Star.{star-on, star-stop, star-none, star-from}

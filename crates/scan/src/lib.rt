@@ -8,12 +8,12 @@
 use ascii::is_op_char;
 use ascii::is_symbolchar;
 use chars::is_anywhite;
-use chars::is_ascii_ident_char;
-use chars::is_digit;
-use chars::is_hex;
 use chars::is_ident_char;
 use definition::Match;
 use definition::Sequence;
+use fixed_chars::is_ascii_ident_char;
+use fixed_chars::is_digit;
+use fixed_chars::is_hex;
 use peeks::byte_either;
 use text::sequence_at;
 ghost use mathlib.Core.Path.{_≡_};

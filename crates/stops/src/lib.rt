@@ -3,9 +3,9 @@
 // Proved: the answer of each public function is what the definition gives, at any offset of any bytes. A byte of ASCII is
 // a character by itself, any other is decoded.
 // Assumed: nothing.
-use chars::is_newline_char;
 use definition::Match;
 use definition::Sequence;
+use fixed_chars::is_newline_char;
 use text::sequence_at;
 ghost use mathlib.Core.Path.{_≡_};
 ghost use Rattle.definition.specs.Text.{star};

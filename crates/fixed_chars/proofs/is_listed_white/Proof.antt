@@ -1,9 +1,9 @@
 -- `is_listed_white` meets its contract: each return is an arm of the definition's test.
 use borrow.Author.Needs.{needs}
-use Rattle.chars.specs.Parts.{listed-white}
+use Rattle.fixed_chars.specs.Parts.{listed-white}
 use Rattle.lemmas.proofs.Cases.{all-tests}
-use Rattle.chars.proofs.is_listed_white.Statement.{statement}
-use Rattle.chars.proofs.is_listed_white.Tie as tie
+use Rattle.fixed_chars.proofs.is_listed_white.Statement.{statement}
+use Rattle.fixed_chars.proofs.is_listed_white.Tie as tie
 
 returns : tie.Need-returns
 unfolding listed-white

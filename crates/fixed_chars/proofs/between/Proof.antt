@@ -1,7 +1,7 @@
 -- `between` meets its contract: `&&` asks its second test only where the first holds.
 use borrow.Author.Tests.{le-leb, lt-leb}
-use Rattle.chars.proofs.between.Statement.{statement}
-use Rattle.chars.proofs.between.Tie as tie
+use Rattle.fixed_chars.proofs.between.Statement.{statement}
+use Rattle.fixed_chars.proofs.between.Tie as tie
 
 returns : tie.Need-returns
 returns c = rw (le-leb _ _ (c .if1 .taken))

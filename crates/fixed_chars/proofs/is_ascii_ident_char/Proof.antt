@@ -2,9 +2,9 @@
 use mathlib.Core.Path.{sym, _∙_}
 use borrow.Author.Tests.{eq-eqb, ne-eqb}
 use borrow.Author.Needs.{needs}
-use Rattle.chars.specs.Parts.{ascii-ident-char}
-use Rattle.chars.proofs.is_ascii_ident_char.Statement.{statement}
-use Rattle.chars.proofs.is_ascii_ident_char.Tie as tie
+use Rattle.fixed_chars.specs.Parts.{ascii-ident-char}
+use Rattle.fixed_chars.proofs.is_ascii_ident_char.Statement.{statement}
+use Rattle.fixed_chars.proofs.is_ascii_ident_char.Tie as tie
 
 between-requires : tie.Need-between-requires
 between-requires c κs = search needs

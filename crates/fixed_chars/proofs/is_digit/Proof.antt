@@ -1,8 +1,8 @@
 -- `is_digit` meets its contract, which is that of `between`.
 use borrow.Author.Needs.{needs}
 use Rattle.definition.specs.Chars.{is-digit}
-use Rattle.chars.proofs.is_digit.Statement.{statement}
-use Rattle.chars.proofs.is_digit.Tie as tie
+use Rattle.fixed_chars.proofs.is_digit.Statement.{statement}
+use Rattle.fixed_chars.proofs.is_digit.Tie as tie
 
 between-requires : tie.Need-between-requires
 between-requires c κs = search needs

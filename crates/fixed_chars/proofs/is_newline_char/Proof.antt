@@ -2,8 +2,8 @@
 use borrow.Author.Needs.{needs}
 use Rattle.definition.specs.Chars.{is-newline-char}
 use Rattle.lemmas.proofs.Cases.{all-tests}
-use Rattle.chars.proofs.is_newline_char.Statement.{statement}
-use Rattle.chars.proofs.is_newline_char.Tie as tie
+use Rattle.fixed_chars.proofs.is_newline_char.Statement.{statement}
+use Rattle.fixed_chars.proofs.is_newline_char.Tie as tie
 
 returns : tie.Need-returns
 unfolding is-newline-char

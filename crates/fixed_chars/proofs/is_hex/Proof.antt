@@ -2,8 +2,8 @@
 use mathlib.Core.Path.{sym, _∙_}
 use borrow.Author.Needs.{needs}
 use Rattle.definition.specs.Chars.{is-hex}
-use Rattle.chars.proofs.is_hex.Statement.{statement}
-use Rattle.chars.proofs.is_hex.Tie as tie
+use Rattle.fixed_chars.proofs.is_hex.Statement.{statement}
+use Rattle.fixed_chars.proofs.is_hex.Tie as tie
 
 is-digit-requires : tie.Need-is-digit-requires
 is-digit-requires c κs = search needs
