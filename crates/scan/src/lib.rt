@@ -1,13 +1,13 @@
-// Runs of characters that pass a test: a loop for each test that the source passes to `star`.
+// Runs of characters that pass a test: a loop for each test that the source passes to `star`, but for white space, which
+// is the crate `blanks`.
 //
-// Proved: the answer of each function is what the definition gives, at any offset of any bytes. A run over a test that
-// only ASCII passes goes by bytes, the others decode where a byte isn't ASCII; both are the definition's `star` over
-// characters.
+// Proved: the answer of each public function is what the definition gives, at any offset of any bytes. A run over a test
+// that only ASCII passes goes by bytes, one over identifiers decodes where a byte isn't ASCII; both are the definition's
+// `star` over characters.
 // Assumed: nothing but what each function's `requires` says: a class file that `class_check` accepts where a class is
 // asked, the table of operator characters where one is used.
 use ascii::is_op_char;
 use ascii::is_symbolchar;
-use chars::is_anywhite;
 use chars::is_ident_char;
 use definition::Match;
 use definition::Sequence;
@@ -22,7 +22,7 @@ ghost use lib.Dec.{eqb, ltb};
 ghost use Rattle.definition.specs.Basics.{between, ch};
 ghost use Rattle.definition.specs.ClassFile.{class-check};
 ghost use Rattle.definition.specs.Text.{byte-has, star};
-ghost use Rattle.definition.specs.Chars.{ascii-table, op-char-cps, symbolchar-cps, is-digit, is-hex, is-op-char, is-symbolchar, is-ident-char, is-anywhite};
+ghost use Rattle.definition.specs.Chars.{ascii-table, op-char-cps, symbolchar-cps, is-digit, is-hex, is-op-char, is-symbolchar, is-ident-char};
 ghost use Rattle.definition.specs.Matchers.{only, one, plus};
 ghost use Rattle.definition.specs.declared.Match.the-variants.{To};
 
@@ -140,7 +140,7 @@ pub fn star_symbolchar(text: &[u8], table: &[bool; 128], i: usize) -> usize
     j
 }
 
-// ---- tests that other characters pass too: a byte of ASCII is a character by itself, any other is decoded
+// ---- identifiers: a byte of ASCII is a character by itself, any other is decoded
 
 // The end of a character that may stand in an identifier.
 pub fn one_ident_char(text: &[u8], file: &[u8], i: usize) -> Match
@@ -165,29 +165,6 @@ pub fn one_ident_char(text: &[u8], file: &[u8], i: usize) -> Match
     Match::Nothing
 }
 
-// The end of a white character.
-pub fn one_anywhite(text: &[u8], file: &[u8], i: usize) -> Match
-    requires { ⌜ class-check (now file) ≡ 0 ⌝ }
-    ensures { λ r. ⌜ r ≡ one (is-anywhite (now (file .entry))) (now (text .entry)) i ⌝ }
-{
-    if text.len() <= i {
-        return Match::Nothing;
-    }
-    if text[i] < 0x80 {
-        if is_anywhite(file, text[i] as u32) {
-            return Match::To(i + 1);
-        }
-        return Match::Nothing;
-    }
-    let Sequence::Char(c, width) = sequence_at(text, i) else {
-        return Match::Nothing;
-    };
-    if is_anywhite(file, c) {
-        return Match::To(i + width);
-    }
-    Match::Nothing
-}
-
 pub fn star_ident_char(text: &[u8], file: &[u8], i: usize) -> usize
     requires { ⌜ class-check (now file) ≡ 0 ⌝ }
     ensures { λ r. ⌜ r ≡ star (is-ident-char (now (file .entry))) (now (text .entry)) i ⌝ }
@@ -201,23 +178,10 @@ pub fn star_ident_char(text: &[u8], file: &[u8], i: usize) -> usize
     }
 }
 
-pub fn star_anywhite(text: &[u8], file: &[u8], i: usize) -> usize
-    requires { ⌜ class-check (now file) ≡ 0 ⌝ }
-    ensures { λ r. ⌜ r ≡ star (is-anywhite (now (file .entry))) (now (text .entry)) i ⌝ }
-{
-    let mut j = i;
-    loop {
-        let Match::To(k) = one_anywhite(text, file, j) else {
-            return j;
-        };
-        j = k;
-    }
-}
-
 // ---- runs of a character or more
 
 // A run from i to `end`, if that is one.
-fn some_run(i: usize, end: usize) -> Match
+pub fn some_run(i: usize, end: usize) -> Match
     ensures { λ r. ⌜ r ≡ only (ltb i end) (To end) ⌝ }
 {
     if i < end {
@@ -262,11 +226,4 @@ pub fn plus_ident_char(text: &[u8], file: &[u8], i: usize) -> Match
     ensures { λ r. ⌜ r ≡ plus (is-ident-char (now (file .entry))) (now (text .entry)) i ⌝ }
 {
     some_run(i, star_ident_char(text, file, i))
-}
-
-pub fn plus_anywhite(text: &[u8], file: &[u8], i: usize) -> Match
-    requires { ⌜ class-check (now file) ≡ 0 ⌝ }
-    ensures { λ r. ⌜ r ≡ plus (is-anywhite (now (file .entry))) (now (text .entry)) i ⌝ }
-{
-    some_run(i, star_anywhite(text, file, i))
 }

@@ -5,6 +5,7 @@
 // Assumed: nothing but what each function's `requires` says: the class file is accepted, and a reader stands in a sound
 // state of a legal text.
 // Cost: a literal is read once.
+use blanks::star_anywhite;
 use definition::Extra;
 use definition::Match;
 use definition::Pos;
@@ -24,7 +25,6 @@ use matchers::match_newline;
 use peeks::byte_is;
 use positions::pos_of;
 use quoted::match_escape;
-use scan::star_anywhite;
 use stops::run_end;
 ghost use mathlib.Core.Path.{_≡_};
 ghost use Prim.Native.Nat.{_<_};

@@ -1,8 +1,8 @@
 -- `plus_anywhite` is the run, if that is one.
 use Rattle.scan.proofs.RunLaws.{plus-from}
 use borrow.Author.Needs.{needs}
-use Rattle.scan.proofs.plus_anywhite.Statement.{statement}
-use Rattle.scan.proofs.plus_anywhite.Tie as tie
+use Rattle.blanks.proofs.plus_anywhite.Statement.{statement}
+use Rattle.blanks.proofs.plus_anywhite.Tie as tie
 
 star-anywhite-requires : tie.Need-star-anywhite-requires
 star-anywhite-requires c κs = search needs

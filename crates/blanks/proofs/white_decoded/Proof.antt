@@ -1,15 +1,15 @@
--- `star_anywhite` is the definition's `star` over its test. The invariant: the run from `j` ends where the run from i does. The measure is what is
+-- `white_decoded` is the definition's `star` over its test. The invariant: the run from `j` ends where the run from i does. The measure is what is
 -- left of the text.
 use Prim.Native.Nat.{_-_}
 use mathlib.Core.Path.{_≡_, refl, sym, _∙_}
 use lib.ListN.{length}
 use Rattle.definition.specs.Chars.{is-anywhite}
 use Rattle.definition.specs.Text.{star}
 use Rattle.scan.proofs.RunLaws.{run-on, run-past, run-stop}
 use borrow.Author.Needs.{needs}
 use native.Mathlib.Omega.{arith}
-use Rattle.scan.proofs.star_anywhite.Statement.{statement}
-use Rattle.scan.proofs.star_anywhite.Tie as tie
+use Rattle.blanks.proofs.white_decoded.Statement.{statement}
+use Rattle.blanks.proofs.white_decoded.Tie as tie
 
 abbrev Inv-loop : tie.InvT-loop
 Inv-loop text file i j₀ j = star (is-anywhite file) text j ≡ star (is-anywhite file) text i
@@ -44,8 +44,8 @@ loop-again c =
     let d = c .before .before .before in
     sym (run-on _ _ _ (sym (d .one-anywhite .ensures) ∙ c .before .k .given .1)) ∙ d .before .loop .inv
 
-pub star-anywhite-spec : {M : Type 1} → statement M
-star-anywhite-spec =
+pub white-decoded-spec : {M : Type 1} → statement M
+white-decoded-spec =
     tie.close
     (tie.spec
     Inv-loop

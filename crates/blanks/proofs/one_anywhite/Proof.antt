@@ -2,11 +2,11 @@
 use mathlib.Core.Path.{sym, _∙_}
 use Rattle.text.proofs.Character.{char-read, char-within}
 use Rattle.progress.proofs.Characters.{ascii-at}
 use Rattle.scan.proofs.RunLaws.{one-yes, one-no, one-end, one-other}
 use borrow.Author.Needs.{needs}
 use native.Mathlib.Omega.{arith}
-use Rattle.scan.proofs.one_anywhite.Statement.{statement}
-use Rattle.scan.proofs.one_anywhite.Tie as tie
+use Rattle.blanks.proofs.one_anywhite.Statement.{statement}
+use Rattle.blanks.proofs.one_anywhite.Tie as tie
 
 returns : tie.Need-returns
 returns c = sym (one-end _ _ _ (c .if1 .taken))
