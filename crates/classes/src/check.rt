@@ -1,7 +1,7 @@
 // The class check: a file's length, its layout, and that the ranges of each class ascend.
 ghost use mathlib.Core.Path.{_≡_};
 ghost use mathlib.Core.Bool.{true};
-ghost use Prim.Native.Nat.{_+_, _*_, _≤_, _<_};
+ghost use Prim.Native.Nat.{_+_, _≤_, _<_};
 ghost use lib.ListN.{length, drop};
 ghost use Rattle.definition.specs.ClassFile.{little-endian, class-count, place-of, ranges-of, laid-out, ascending, ranges-right, class-check};
 

@@ -6,7 +6,7 @@ use definition::Match;
 ghost use mathlib.Core.Path.{_≡_};
 ghost use mathlib.Core.Bool.{_&&_, _||_};
 ghost use Prim.Native.Nat.{_+_, _≤_};
-ghost use lib.Dec.{eqb, ltb};
+ghost use lib.Dec.{eqb};
 ghost use lib.ListN.{length};
 ghost use Rattle.definition.specs.Text.{byte-has, byte-is};
 ghost use Rattle.definition.specs.Matchers.{_then_, later, match-lit, no-comment};

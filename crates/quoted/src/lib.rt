@@ -13,11 +13,7 @@ use scan::hex_at;
 use text::byte;
 use text::sequence_at;
 ghost use mathlib.Core.Path.{_≡_};
-ghost use mathlib.Core.Bool.{_&&_};
-ghost use Prim.Native.Nat.{_+_};
 ghost use Rattle.definition.specs.Basics.{codes, mem-cp};
-ghost use Rattle.definition.specs.Text.{byte-has};
-ghost use Rattle.definition.specs.Chars.{is-hex};
 ghost use Rattle.definition.specs.Matchers.{one, match-escape, match-char, match-char-lit, match-backtick-ident};
 ghost use Rattle.quoted.specs.Parts.{in-backticks, backtick-part, hex-pair};
 

@@ -1,5 +1,4 @@
 -- `stops` is the test of its three arms.
-use mathlib.Core.Path.{_∙_}
 use Rattle.lemmas.proofs.Cases.{all-tests}
 use borrow.Author.Needs.{needs}
 use Rattle.stops.proofs.stops.Statement.{statement}
