@@ -11,8 +11,8 @@ use Rattle.definition.specs.Matchers.{match-lit, match-newline}
 use Rattle.definition.specs.Comment.{run-end, after}
 use Rattle.definition.specs.Blob.{blob-stop}
 use Rattle.definition.specs.declared.Match.the-variants.{To, Nothing}
-use Rattle.scan.specs.Stops.{goes-on}
-use Rattle.scan.proofs.StopLaws.{one-stop, line-stop}
+use Rattle.stops.specs.Stops.{goes-on}
+use Rattle.stops.proofs.StopLaws.{one-stop, line-stop}
 use Rattle.blobs.specs.declared.Move.{Move}
 use Rattle.blobs.specs.declared.Move.the-variants.{Close, Open, Line, On}
 use Rattle.blobs.specs.Moves.{contents-move, inside-move, blob-move, lang-move}

@@ -1,49 +1,24 @@
-// The tests on characters, in the source's order. An ASCII character is never looked up in a class. Proved: each is the
-// definition's test; those that read a class file are so for any file that the class check accepts.
+// The tests on characters that look them up, in the table of lowercase letters or in a class, in the source's order. An
+// ASCII character is never looked up in a class. (The tests that look nothing up are the crate `fixed_chars`.)
+// Proved: each is the definition's test; those that read a class file are so for any file that the class check accepts.
 // Assumed: nothing but what each function's `requires` says.
-use classes::member::is_lm;
-use classes::member::is_lo;
-use classes::member::is_lt;
-use classes::member::is_lu;
-use classes::member::is_sm;
-use classes::member::is_zs;
+use fixed_chars::QUOTE;
+use fixed_chars::UNDERSCORE;
+use fixed_chars::between;
+use fixed_chars::is_ascii_ident_char;
+use fixed_chars::is_listed_white;
 use lowercase::is_ll;
+use members::is_lm;
+use members::is_lo;
+use members::is_lt;
+use members::is_lu;
+use members::is_sm;
+use members::is_zs;
 ghost use mathlib.Core.Path.{_≡_};
-ghost use Rattle.definition.specs.Basics.{between as between-codes};
 ghost use Rattle.definition.specs.ClassFile.{class-check};
-ghost use Rattle.chars.specs.Parts.{ascii-ident-char, listed-white};
-ghost use Rattle.definition.specs.Chars.{is-digit, is-hex, is-lower, is-ident-start, is-constructor-start, is-ident-char, is-anywhite, is-newline-char, is-uoperator};
+ghost use Rattle.definition.specs.Chars.{is-lower, is-ident-start, is-constructor-start, is-ident-char, is-anywhite, is-uoperator};
 
 const ASCII_LIMIT: u32 = 128;
-
-const UNDERSCORE: u32 = 95;
-
-const QUOTE: u32 = 39;
-
-// c is one of the characters from `first` to `last`.
-fn between(first: u8, last: u8, c: u32) -> bool
-    ensures { λ r. ⌜ r ≡ between-codes first last c ⌝ }
-{
-    first as u32 <= c && c <= last as u32
-}
-
-pub fn is_digit(c: u32) -> bool
-    ensures { λ r. ⌜ r ≡ is-digit c ⌝ }
-{
-    between(b'0', b'9', c)
-}
-
-pub fn is_hex(c: u32) -> bool
-    ensures { λ r. ⌜ r ≡ is-hex c ⌝ }
-{
-    if is_digit(c) {
-        return true;
-    }
-    if between(b'A', b'F', c) {
-        return true;
-    }
-    between(b'a', b'f', c)
-}
 
 pub fn is_lower(c: u32) -> bool
     ensures { λ r. ⌜ r ≡ is-lower c ⌝ }
@@ -79,25 +54,6 @@ pub fn is_constructor_start(file: &[u8], c: u32) -> bool
     is_lt(file, c)
 }
 
-// The ASCII part of `is_ident_char`.
-pub fn is_ascii_ident_char(c: u32) -> bool
-    ensures { λ r. ⌜ r ≡ ascii-ident-char c ⌝ }
-{
-    if between(b'a', b'z', c) {
-        return true;
-    }
-    if between(b'A', b'Z', c) {
-        return true;
-    }
-    if is_digit(c) {
-        return true;
-    }
-    if c == QUOTE {
-        return true;
-    }
-    c == UNDERSCORE
-}
-
 pub fn is_ident_char(file: &[u8], c: u32) -> bool
     requires { ⌜ class-check (now file) ≡ 0 ⌝ }
     ensures { λ r. ⌜ r ≡ is-ident-char (now (file .entry)) c ⌝ }
@@ -117,28 +73,6 @@ pub fn is_ident_char(file: &[u8], c: u32) -> bool
     is_lm(file, c)
 }
 
-// The white characters that no class is asked about: space, tab, vertical tab, form feed, U+00A0 and U+FEFF.
-fn is_listed_white(c: u32) -> bool
-    ensures { λ r. ⌜ r ≡ listed-white c ⌝ }
-{
-    if c == 32 {
-        return true;
-    }
-    if c == 9 {
-        return true;
-    }
-    if c == 11 {
-        return true;
-    }
-    if c == 12 {
-        return true;
-    }
-    if c == 0xA0 {
-        return true;
-    }
-    c == 0xFEFF
-}
-
 pub fn is_anywhite(file: &[u8], c: u32) -> bool
     requires { ⌜ class-check (now file) ≡ 0 ⌝ }
     ensures { λ r. ⌜ r ≡ is-anywhite (now (file .entry)) c ⌝ }
@@ -150,22 +84,6 @@ pub fn is_anywhite(file: &[u8], c: u32) -> bool
         return false;
     }
     is_zs(file, c)
-}
-
-// LF, CR, U+2028 and U+2029.
-pub fn is_newline_char(c: u32) -> bool
-    ensures { λ r. ⌜ r ≡ is-newline-char c ⌝ }
-{
-    if c == 10 {
-        return true;
-    }
-    if c == 13 {
-        return true;
-    }
-    if c == 0x2028 {
-        return true;
-    }
-    c == 0x2029
 }
 
 pub fn is_uoperator(file: &[u8], c: u32) -> bool

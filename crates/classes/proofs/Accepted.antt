@@ -13,7 +13,7 @@ use lib.Seq.{drop-drop}
 use borrow.Author.Tests.{eqb-true, le-ltb, lt-ltb, eq-eqb, ne-eqb}
 use Rattle.definition.specs.Basics.{Bytes}
 use Rattle.definition.specs.ClassFile.{Range, little-endian, class-count, class-offset, counts-before, place-of, read-ranges, ranges-of, bad-class-length, offsets-right, laid-out, ascending, ranges-right, class-check}
-use Rattle.classes.specs.Search.{first-at, last-at}
+use Rattle.classes.specs.Ends.{first-at, last-at}
 use Rattle.lemmas.proofs.Cases.{by-bool, by-order, never}
 use Rattle.classes.proofs.Tests.{all-each, all-more, all-fails}
 

@@ -1,5 +1,5 @@
--- What belongs to no one function: `Tests` is the test of a range, `Ranges` the search among ascending ranges, `Accepted` what the
--- class check gives.
+-- What belongs to no one function: `Tests` is a test of every place below a number, `Ranges` what an ascending list says of its ranges,
+-- `Accepted` what the class check gives.
 pub mod Tests
 pub mod Ranges
 pub mod Accepted

@@ -1,32 +1,11 @@
--- The test of a range, and a test of every place below a number. Rests on the comparisons' own laws.
-use Prim.Native.Nat.{ℕ, zero, suc, _+_, _≤_, _<_}
+-- A test `all` of every place below a number, which asks `test` of the last place first. Rests on the laws of choices.
+use Prim.Native.Nat.{ℕ, zero, suc, _+_, _<_}
 use mathlib.Core.Path.{_≡_, refl, sym, _∙_}
-use mathlib.Core.Bool.{Bool, true, false, _&&_}
+use mathlib.Core.Bool.{Bool, true, false}
 use mathlib.Core.Logic.{⊎-elim}
 use native.Mathlib.Nat.{le-of-suc-le-suc, not-suc-le-zero, eq-or-lt-of-le}
 use native.Mathlib.Numerals.{add-one}
-use lib.Dec.{leb}
-use borrow.Author.Tests.{le-leb, lt-leb, leb-true, leb-false}
-use Rattle.definition.specs.Basics.{between}
 use Rattle.lemmas.proofs.Cases.{by-bool, never}
-
-module _ (a b c : ℕ) where
-  -- a number that a range holds passes its test
-  pub between-yes : a ≤ c → c ≤ b → between a b c ≡ true
-  between-yes p q = simp (le-leb a c p, le-leb c b q)
-
-  -- one above it doesn't
-  pub between-above : b < c → between a b c ≡ false
-  between-above p = by-bool (λ t. (t && leb c b) ≡ false) (leb a c) (λ e. lt-leb c b p) (λ e. refl)
-
-  -- a range's test by its three cases: within, below and above
-  pub between-cases : (P : Bool → Type 0) → (a ≤ c → c ≤ b → P true) → (c < a → P false) → (b < c → P false) → P (between a b c)
-  between-cases P within below above =
-      by-bool (λ t. P (t && leb c b)) (leb a c)
-      (λ e. by-bool P (leb c b) (λ q. within (leb-true a c e) (leb-true c b q)) (λ q. above (leb-false c b q)))
-      (λ e. below (leb-false a c e))
-
--- ---- a test `all` of every place below a number, which asks `test` of the last place first
 
 module _ (test all : ℕ → Bool) (step : (k : ℕ) → all (suc k) ≡ elim (test k) [ true ↦ all k | false ↦ false ]) where
   -- where it passes, the last place passes and so do those before

@@ -1,2 +1,2 @@
--- `Search` is what the search among ranges answers.
-pub mod Search
+-- `Ends` is the first and the last code point of a range of a list.
+pub mod Ends

@@ -1,7 +1,7 @@
 // The class check: a file's length, its layout, and that the ranges of each class ascend.
 ghost use mathlib.Core.Path.{_≡_};
 ghost use mathlib.Core.Bool.{true};
-ghost use Prim.Native.Nat.{_+_, _*_, _≤_, _<_};
+ghost use Prim.Native.Nat.{_+_, _≤_, _<_};
 ghost use lib.ListN.{length, drop};
 ghost use Rattle.definition.specs.ClassFile.{little-endian, class-count, place-of, ranges-of, laid-out, ascending, ranges-right, class-check};
 
@@ -15,7 +15,7 @@ const LONGEST_FILE: usize = 65536;
 const LAST_CODE_POINT: u32 = 1114111;
 
 // The number that the four bytes from `at` on spell, the least first.
-pub(crate) fn number_at(file: &[u8], at: usize) -> u32
+pub fn number_at(file: &[u8], at: usize) -> u32
     requires { ⌜ at + 4 ≤ length (now file) ⌝ }
     ensures { λ r. ⌜ r ≡ little-endian (drop at (now (file .entry))) ⌝ }
 {
@@ -24,7 +24,7 @@ pub(crate) fn number_at(file: &[u8], at: usize) -> u32
 }
 
 // How many ranges class k has.
-pub(crate) fn class_count(file: &[u8], k: usize) -> usize
+pub fn class_count(file: &[u8], k: usize) -> usize
     requires { ⌜ (laid-out (now file) ≡ true) × (k < 6) ⌝ }
     ensures { λ r. ⌜ r ≡ class-count (now (file .entry)) k ⌝ }
 {
@@ -32,7 +32,7 @@ pub(crate) fn class_count(file: &[u8], k: usize) -> usize
 }
 
 // Where the ranges of class k begin.
-pub(crate) fn class_start(file: &[u8], k: usize) -> usize
+pub fn class_start(file: &[u8], k: usize) -> usize
     requires { ⌜ (laid-out (now file) ≡ true) × (k < 6) ⌝ }
     ensures { λ r. ⌜ r ≡ place-of (now (file .entry)) k ⌝ }
 {
@@ -98,7 +98,7 @@ fn ranges_right(file: &[u8]) -> bool
     true
 }
 
-// A refusal number, or 0 for a file whose classes can be read (member.rt).
+// A refusal number, or 0 for a file whose classes can be read (crate `members`).
 pub fn class_check(file: &[u8]) -> u32
     ensures { λ r. ⌜ r ≡ class-check (now (file .entry)) ⌝ }
 {

@@ -16,7 +16,7 @@ use Rattle.definition.specs.declared.State.{State}
 use Rattle.definition.specs.declared.Match.the-variants.{To}
 use Rattle.progress.proofs.Walks.{Onward, walk-within, star-walks}
 use Rattle.progress.proofs.Comments.{after-walks, two-onward}
-use Rattle.scan.specs.Stops.{goes-on}
+use Rattle.stops.specs.Stops.{goes-on}
 use Rattle.soundness.proofs.Moving.{walk-stands}
 use Rattle.described.specs.Described.{Known-at}
 use Rattle.described.specs.Places.{moved, next-line}

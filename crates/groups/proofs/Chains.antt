@@ -10,10 +10,10 @@ use Rattle.definition.specs.Select.{none-at, keep, found}
 use Rattle.definition.specs.declared.Choice.{Choice}
 use Rattle.definition.specs.declared.Match.{Match}
 use Rattle.definition.specs.declared.Match.the-variants.{To, Nothing}
-use Rattle.numbers.specs.declared.IntegerEnds.{IntegerEnds}
-use Rattle.numbers.specs.Parts.{integer-ends}
+use Rattle.integers.specs.declared.IntegerEnds.{IntegerEnds}
+use Rattle.integers.specs.Parts.{integer-ends}
 use Rattle.lemmas.proofs.Cases.{by-test}
-use Rattle.scan.proofs.ByteLaws.{later-nothing}
+use Rattle.peeks.proofs.ByteLaws.{later-nothing}
 use Rattle.groups.specs.Groups.{quantified}
 
 -- The better of two choices that are known by equations.

@@ -3,19 +3,19 @@ use crate::choice::alone;
 use attempts::try_place;
 use definition::Choice;
 use definition::Match;
-use numbers::IntegerEnds;
-use numbers::any_integer_ends;
+use integers::IntegerEnds;
+use integers::any_integer_ends;
+use integers::suffix_after;
+use integers::usuffix_after;
 use numbers::bad_number_after;
 use numbers::floatp_after;
 use numbers::real_after;
-use numbers::suffix_after;
-use numbers::usuffix_after;
-use scan::bytes::later;
+use peeks::later;
 ghost use mathlib.Core.Path.{_≡_};
 ghost use Rattle.definition.specs.ClassFile.{class-check};
 ghost use Rattle.definition.specs.Matchers.{later, match-int-suffix, match-int-usuffix};
 ghost use Rattle.definition.specs.Select.{keep, found};
-ghost use Rattle.numbers.specs.Parts.{integer-ends};
+ghost use Rattle.integers.specs.Parts.{integer-ends};
 ghost use Rattle.groups.specs.Groups.{byte-integer, at-integers, at-digit};
 
 // The later of both ends of an integer.

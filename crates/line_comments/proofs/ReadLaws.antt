@@ -16,8 +16,8 @@ use Rattle.definition.specs.declared.State.{State}
 use Rattle.definition.specs.declared.Extra.the-variants.{Comment}
 use Rattle.lemmas.proofs.Lists.{slice-then-drop}
 use Rattle.progress.proofs.Walks.{walk-within, walk-forward, star-walks}
-use Rattle.scan.specs.Stops.{goes-on}
-use Rattle.scan.proofs.StopLaws.{line-stop}
+use Rattle.stops.specs.Stops.{goes-on}
+use Rattle.stops.proofs.StopLaws.{line-stop}
 use Rattle.soundness.proofs.Moving.{stands-within}
 use Rattle.positions.specs.Columns.{Asked, located}
 use Rattle.positions.specs.declared.Located.{Located}

@@ -13,7 +13,7 @@ use described::Place;
 use described::Read;
 use described::span;
 use positions::pos_of;
-use scan::stops::run_end;
+use stops::run_end;
 ghost use mathlib.Core.Path.{_≡_};
 ghost use Prim.Native.Nat.{_<_};
 ghost use Rattle.definition.specs.Text.{lexeme};

@@ -4,12 +4,12 @@
 mod ll_table; // ll_table.rt: the ranges
 
 use crate::ll_table::LL;
-use classes::member::Found;
+use members::Found;
 ghost use mathlib.Core.Path.{_≡_};
 ghost use Prim.Native.Nat.{_<_};
 ghost use lib.ListN.{getD};
 ghost use Rattle.definition.specs.Lowercase.{ll-tbl, flat, is-ll};
-ghost use Rattle.classes.specs.Search.{range-of};
+ghost use Rattle.members.specs.Search.{range-of};
 
 const RANGES: usize = 664;
 

@@ -1,4 +1,2 @@
--- What belongs to no one function. `NameLaws`: line ends, and a character with a run behind it. `QuoteLaws`: escapes, and names in
--- backticks.
+-- What belongs to no one function. `NameLaws`: line ends, and a character with a run behind it.
 pub mod NameLaws
-pub mod QuoteLaws

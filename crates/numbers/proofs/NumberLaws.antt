@@ -1,75 +1,17 @@
--- The definition's numbers from the end of their digits on: suffixes, fractions, exponents, and numbers that go wrong. Rests on the laws of
+-- The definition's numbers from the end of their digits on: fractions, exponents, and numbers that go wrong. Rests on the laws of
 -- matchers put together, and on the law of the longest match that three ends of a bad number are enough.
 use Prim.Native.Nat.{ℕ, _+_}
-use mathlib.Core.Path.{_≡_, refl, sym, ap, ap₂, _∙_}
+use mathlib.Core.Path.{_≡_, refl, sym, ap, _∙_}
 use mathlib.Core.Bool.{Bool, true, false}
-use mathlib.Core.List.{[], _∷_}
 use Rattle.definition.specs.Basics.{Bytes, ch}
 use Rattle.definition.specs.Text.{byte-has, byte-is, star}
 use Rattle.definition.specs.Chars.{is-digit, is-ident-char}
-use Rattle.definition.specs.Matchers.{
-  _then_,
-  later,
-  max-list,
-  only,
-  match-lit,
-  plus,
-  match-integer,
-  match-xinteger,
-  any-integer-ends,
-  match-int-suffix,
-  match-int-usuffix,
-  match-floatp,
-  skip-sign,
-  is-e,
-  match-floate,
-  match-real,
-  match-bad-number,
-}
+use Rattle.definition.specs.Matchers.{_then_, later, only, plus, match-integer, match-floatp, skip-sign, is-e, match-floate, match-real, match-bad-number}
 use Rattle.definition.specs.declared.Match.{Match}
 use Rattle.definition.specs.declared.Match.the-variants.{To, Nothing}
-use Rattle.numbers.specs.declared.IntegerEnds.{IntegerEnds}
-use Rattle.numbers.specs.Parts.{integer-ends, usuffix, point, fraction, exponent, exponent-behind, real-end, short-exponent, short-float, bad-number-behind}
-use Rattle.scan.proofs.ByteLaws.{later-nothing}
+use Rattle.numbers.specs.Parts.{point, fraction, exponent, exponent-behind, real-end, short-exponent, short-float, bad-number-behind}
+use Rattle.integers.proofs.IntegerLaws.{then-of}
 use Rattle.longest.proofs.ThreeEnds.{three-ends}
-
--- ---- matchers put together, from what their parts found
-
--- A matcher behind an end that is known by an equation.
-pub then-of : (f : ℕ → Match) {m n r : Match} → r ≡ (m then f) → m ≡ n → r ≡ (n then f)
-then-of f p q = p ∙ ap (λ (k : Match). k then f) q
-
--- The later of two ends that are.
-pub later-of : {a b x y r : Match} → r ≡ later a b → a ≡ x → b ≡ y → r ≡ later x y
-later-of p q h = p ∙ ap₂ later q h
-
--- ---- suffixes
-
--- Both ends of an integer, from each.
-pub ends-are : (s : Bytes) (i : ℕ) {a b : Match} → a ≡ match-integer s i → b ≡ match-xinteger s i
-    → _≡_ {A = IntegerEnds} (record { plain = a; based = b }) (integer-ends s i)
-ends-are s i p q = ap₂ {C = IntegerEnds} (λ a b. record { plain = a; based = b }) p q
-
--- What is looked for behind both ends, where they are known by an equation.
-pub ends-of : (s : Bytes) (i : ℕ) (f : ℕ → Match) {ends : IntegerEnds} {r : Match} → r ≡ later (ends .plain then f) (ends .based then f)
-    → ends ≡ integer-ends s i → r ≡ later (match-integer s i then f) (match-xinteger s i then f)
-ends-of s i f p q = p ∙ ap (λ (e : IntegerEnds). later (e .plain then f) (e .based then f)) q
-
--- The later of two ends is the latest of their list.
-two-ends : (a b : Match) → later a b ≡ max-list (a ∷ b ∷ [])
-unfolding max-list
-two-ends a b = ap (later a) (sym (later-nothing b))
-
-module _ (s : Bytes) (i : ℕ) (word : Bytes) where
-  -- An integer with a suffix is a suffix behind either end.
-  pub suffix-is : later (match-integer s i then match-lit s word) (match-xinteger s i then match-lit s word) ≡ match-int-suffix s i word
-  unfolding match-int-suffix any-integer-ends
-  suffix-is = two-ends (match-integer s i then match-lit s word) (match-xinteger s i then match-lit s word)
-
-  -- So is one with a u before it.
-  pub usuffix-is : later (match-integer s i then usuffix s word) (match-xinteger s i then usuffix s word) ≡ match-int-usuffix s i word
-  unfolding match-int-usuffix any-integer-ends usuffix
-  usuffix-is = two-ends (match-integer s i then usuffix s word) (match-xinteger s i then usuffix s word)
 
 -- ---- fractions and exponents
 

@@ -1,23 +1,12 @@
--- Parts of the definition's matchers of numbers that have a function of their own. The proofs of the matchers show that these are the
+-- Parts of the definition's matchers of floats and of numbers that go wrong that have a function of their own. The proofs of the matchers show that these are the
 -- definition's own words.
 use Prim.Native.Nat.{ℕ, _+_}
-use mathlib.Core.Bool.{_||_}
-use lib.Dec.{eqb}
 use Rattle.definition.specs.Basics.{Bytes, ch}
 use Rattle.definition.specs.Text.{byte-has, byte-is, star}
 use Rattle.definition.specs.Chars.{is-digit, is-ident-char}
-use Rattle.definition.specs.Matchers.{_then_, later, only, match-lit, plus, match-integer, match-xinteger, skip-sign, is-e}
+use Rattle.definition.specs.Matchers.{_then_, later, only, plus, match-integer, skip-sign, is-e}
 use Rattle.definition.specs.declared.Match.{Match}
 use Rattle.definition.specs.declared.Match.the-variants.{To}
-use Rattle.numbers.specs.declared.IntegerEnds.{IntegerEnds}
-
--- both ends of an integer
-abbrev pub integer-ends : Bytes → ℕ → IntegerEnds
-integer-ends s i = record { plain = match-integer s i; based = match-xinteger s i }
-
--- u or U and a word, behind an integer that ends at e
-unfoldable pub usuffix : Bytes → Bytes → ℕ → Match
-usuffix s word e = only (byte-has (λ c. eqb c (ch "u") || eqb c (ch "U")) s e) (match-lit s word (e + 1))
 
 -- a point, behind digits that end at j
 unfoldable pub point : Bytes → ℕ → Match

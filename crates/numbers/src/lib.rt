@@ -1,114 +1,22 @@
-// Integers with their suffixes, floats, and numbers that go wrong. A digit of an integer or of a fraction is read once: what
-// may follow them is looked for behind their ends by the functions named `.._after`, which take these ends.
+// Floats, reals, and numbers that go wrong. A digit of an integer or of a fraction is read once: what may follow them is
+// looked for behind their ends by the functions named `.._after`, which take these ends.
+//
 // Proved: the answer of each public function is what the definition gives, at any offset of any bytes.
 // Assumed: nothing but what each function's `requires` says: a class file that `class_check` accepts where a class is
 // asked.
 use definition::Match;
-use scan::bytes::byte_either;
-use scan::bytes::byte_is;
-use scan::bytes::later;
-use scan::bytes::lit_after;
-use scan::bytes::match_lit;
-use scan::runs::digit_at;
-use scan::runs::plus_binary;
-use scan::runs::plus_digit;
-use scan::runs::plus_hex;
-use scan::runs::plus_ident_char;
-use scan::runs::plus_octal;
-use scan::runs::star_digit;
+use integers::match_integer;
+use peeks::byte_either;
+use peeks::byte_is;
+use peeks::later;
+use scan::digit_at;
+use scan::plus_ident_char;
+use scan::star_digit;
 ghost use mathlib.Core.Path.{_≡_};
 ghost use Rattle.definition.specs.ClassFile.{class-check};
 ghost use Rattle.definition.specs.Chars.{is-ident-char};
-ghost use Rattle.definition.specs.Matchers.{_then_, later, match-lit, plus, match-integer, match-xinteger, match-int-suffix, match-int-usuffix, match-floatp, skip-sign, match-floate, match-real, match-bad-number};
-ghost use Rattle.numbers.specs.Parts.{integer-ends, usuffix, point, fraction, exponent, real-end, short-exponent, exponent-behind, short-float, bad-number-behind};
-
-// The end of an integer's digits, and that of the digits behind 0x, 0o or 0b: the source's `any_integer_ends`.
-pub struct IntegerEnds {
-    pub plain: Match,
-    pub based: Match,
-}
-
-pub fn match_integer(text: &[u8], i: usize) -> Match
-    ensures { λ r. ⌜ r ≡ match-integer (now (text .entry)) i ⌝ }
-{
-    plus_digit(text, i)
-}
-
-pub fn match_xinteger(text: &[u8], i: usize) -> Match
-    ensures { λ r. ⌜ r ≡ match-xinteger (now (text .entry)) i ⌝ }
-{
-    if !byte_is(text, i, b'0') {
-        return Match::Nothing;
-    }
-    if byte_either(text, i + 1, b'x', b'X') {
-        return plus_hex(text, i + 2);
-    }
-    if byte_either(text, i + 1, b'o', b'O') {
-        return plus_octal(text, i + 2);
-    }
-    if byte_either(text, i + 1, b'b', b'B') {
-        return plus_binary(text, i + 2);
-    }
-    Match::Nothing
-}
-
-pub fn any_integer_ends(text: &[u8], i: usize) -> IntegerEnds
-    ensures { λ r. ⌜ r ≡ integer-ends (now (text .entry)) i ⌝ }
-{
-    IntegerEnds {
-        plain: match_integer(text, i),
-        based: match_xinteger(text, i),
-    }
-}
-
-// The end of a suffix behind either end of an integer.
-pub fn suffix_after(text: &[u8], ends: IntegerEnds, suffix: &[u8]) -> Match
-    ensures { λ r. ⌜ r ≡ later (ends .plain then match-lit (now (text .entry)) (now (suffix .entry))) (ends .based then match-lit (now (text .entry)) (now (suffix .entry))) ⌝ }
-{
-    let plain = ends.plain;
-    let based = ends.based;
-    later(
-        lit_after(text, plain, suffix),
-        lit_after(text, based, suffix),
-    )
-}
-
-pub fn match_int_suffix(text: &[u8], i: usize, suffix: &[u8]) -> Match
-    ensures { λ r. ⌜ r ≡ match-int-suffix (now (text .entry)) i (now (suffix .entry)) ⌝ }
-{
-    suffix_after(text, any_integer_ends(text, i), suffix)
-}
-
-// The end of a u or U and a suffix behind an end.
-fn u_lit_after(text: &[u8], m: Match, suffix: &[u8]) -> Match
-    ensures { λ r. ⌜ r ≡ (m then usuffix (now (text .entry)) (now (suffix .entry))) ⌝ }
-{
-    let Match::To(e) = m else {
-        return Match::Nothing;
-    };
-    if byte_either(text, e, b'u', b'U') {
-        return match_lit(text, suffix, e + 1);
-    }
-    Match::Nothing
-}
-
-// The end of a u or U and a suffix behind either end of an integer.
-pub fn usuffix_after(text: &[u8], ends: IntegerEnds, suffix: &[u8]) -> Match
-    ensures { λ r. ⌜ r ≡ later (ends .plain then usuffix (now (text .entry)) (now (suffix .entry))) (ends .based then usuffix (now (text .entry)) (now (suffix .entry))) ⌝ }
-{
-    let plain = ends.plain;
-    let based = ends.based;
-    later(
-        u_lit_after(text, plain, suffix),
-        u_lit_after(text, based, suffix),
-    )
-}
-
-pub fn match_int_usuffix(text: &[u8], i: usize, suffix: &[u8]) -> Match
-    ensures { λ r. ⌜ r ≡ match-int-usuffix (now (text .entry)) i (now (suffix .entry)) ⌝ }
-{
-    usuffix_after(text, any_integer_ends(text, i), suffix)
-}
+ghost use Rattle.definition.specs.Matchers.{_then_, plus, match-floatp, skip-sign, match-floate, match-real, match-bad-number};
+ghost use Rattle.numbers.specs.Parts.{point, fraction, exponent, real-end, short-exponent, exponent-behind, short-float, bad-number-behind};
 
 // ---- floats
 

@@ -22,7 +22,7 @@ use crate::spelled::mixfix;
 use crate::spelled::only_byte;
 use crate::spelled::only_pair;
 use definition::Choice;
-use scan::bytes::byte_is;
+use peeks::byte_is;
 use words::nothing;
 ghost use mathlib.Core.Path.{_≡_};
 ghost use Rattle.definition.specs.Tables.{op-tokens, mixfix-rules};

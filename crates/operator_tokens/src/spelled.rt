@@ -2,7 +2,7 @@
 // anew at each token.
 use definition::Choice;
 use definition::Match;
-use scan::bytes::match_lit;
+use peeks::match_lit;
 use words::keep;
 use words::nothing;
 ghost use mathlib.Core.Path.{_≡_};

@@ -2,7 +2,7 @@
 use crate::Ruling;
 use described::Payload;
 use described::Place;
-use scan::bytes::no_comment;
+use peeks::no_comment;
 use words::kw_op_kind;
 use words::kw_op_length;
 use words::kw_op_plain_kind;

@@ -1,5 +1,2 @@
--- What belongs to no one function. `ByteLaws`: tests of a byte, literals, comments. `RunLaws`: one character that passes a test, and
--- runs.
-pub mod ByteLaws
+-- What belongs to no one function. `RunLaws`: one character that passes a test, and runs.
 pub mod RunLaws
-pub mod StopLaws

@@ -18,20 +18,19 @@ use Rattle.definition.specs.Utf8.{encode, sequence-at}
 use Rattle.definition.specs.Text.{with-char, byte-has, star}
 use Rattle.definition.specs.Chars.{ascii-limit, ascii-table, in-table, op-char-cps, symbolchar-cps, is-op-char, is-symbolchar, is-ident-char}
 use Rattle.definition.specs.Matchers.{only, one, plus}
-use Rattle.definition.specs.Comment.{after}
 use Rattle.definition.specs.declared.Sequence.{Sequence}
 use Rattle.definition.proofs.Sequence.{the-type}
 use Rattle.definition.specs.declared.Sequence.the-variants.{Char, Bad, End}
 use Rattle.definition.specs.declared.Match.{Match}
 use Rattle.definition.specs.declared.Match.the-variants.{To, Nothing}
 use Rattle.lemmas.proofs.Cases.{tests, by-outcome, by-lt}
-use Rattle.chars.specs.Parts.{ascii-ident-char}
+use Rattle.fixed_chars.specs.Parts.{ascii-ident-char}
 use Rattle.text.proofs.Reading.{read-end, No-char, with-none}
 use Rattle.text.proofs.Character.{char-read, char-within}
 use Rattle.text.proofs.Star.{star-on, star-stop, star-none, star-from}
 use Rattle.progress.proofs.Characters.{ascii-at}
 use Rattle.progress.proofs.Matches.{Small, small-is, small-or, small-between}
-use Rattle.scan.proofs.ByteLaws.{has-within, has-inside}
+use Rattle.peeks.proofs.ByteLaws.{has-within, has-inside}
 
 -- What is neither of the code's other two answers is no character.
 pub no-char : (q : Sequence) → OneOf (1 ∷ 2 ∷ []) (tagOf the-type q) → No-char q
@@ -175,17 +174,7 @@ module _ (p : ℕ → Bool) (small : Small p) (s : Bytes) (i : ℕ) where
       go Bad q = star-none p s i (rw q tt)
       go End q = star-none p s i (rw q tt)
 
--- ---- the offset after a character
-
--- Behind a character it is its end.
-pub after-char : (s : Bytes) (i : ℕ) {c w : ℕ} → sequence-at s i ≡ Char c w → i + w ≡ after s i
-unfolding after
-after-char s i {c} {w} e = sym (ap (λ (t : Sequence). with-char t i (λ c j. j) i) e)
-
--- Where the code's answer is no character it is the offset itself.
-pub after-none : (s : Bytes) (i : ℕ) {q : Sequence} → q ≡ sequence-at s i → OneOf (1 ∷ 2 ∷ []) (tagOf the-type q) → i ≡ after s i
-unfolding after
-after-none s i {q} e h = sym (with-none (sequence-at s i) i _ i (subst No-char e (no-char q h)))
+-- ---- identifiers
 
 -- A character of ASCII may stand in an identifier by the first part of the test alone.
 pub ascii-ident : (f : Bytes) (c : ℕ) → c < 0x80 → is-ident-char f c ≡ ascii-ident-char c

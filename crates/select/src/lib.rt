@@ -7,10 +7,10 @@
 // Assumed: nothing but what `select`'s `requires` says: a class file that `class_check` accepts, and the tables of operator
 // and of symbol characters.
 use chars::is_constructor_start;
-use chars::is_digit;
 use chars::is_ident_start;
 use definition::Choice;
 use definition::Sequence;
+use fixed_chars::is_digit;
 use groups::beyond::at_beyond_ascii;
 use groups::digits::at_digit;
 use groups::letters::at_capital;

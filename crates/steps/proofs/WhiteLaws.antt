@@ -20,7 +20,7 @@ use Rattle.progress.proofs.Characters.{ascii-at}
 use Rattle.progress.proofs.Walks.{byte-passes}
 use Rattle.progress.proofs.Choices.{Fits, select-fits}
 use Rattle.longest.proofs.Places.{white-fast, line-fast, has-read}
-use Rattle.scan.proofs.ByteLaws.{has-within}
+use Rattle.peeks.proofs.ByteLaws.{has-within}
 use Rattle.scan.proofs.RunLaws.{one-yes, one-no, one-end, run-on, run-stop}
 use Rattle.select.proofs.First.{white-path, line-path}
 use Rattle.described.specs.Places.{moved, next-line}

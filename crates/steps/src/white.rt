@@ -5,13 +5,13 @@
 // column that is known.
 // Assumed: nothing but what each function's `requires` says: a reader stands in a sound state of a legal text, between
 // comments, and the class file is accepted.
+use blanks::star_anywhite;
 use definition::Match;
 use described::Place;
 use described::places::moved;
 use described::places::next_line;
-use matchers::names::match_newline;
-use scan::bytes::byte_either;
-use scan::runs::star_anywhite;
+use matchers::match_newline;
+use peeks::byte_either;
 ghost use mathlib.Core.Path.{_≡_};
 ghost use lib.Dec.{leb};
 ghost use Rattle.definition.specs.ClassFile.{class-check};

@@ -14,8 +14,8 @@ use Rattle.definition.specs.Comment.{run-end}
 use Rattle.definition.specs.Strings.{string-stop}
 use Rattle.definition.specs.declared.Match.{Match}
 use Rattle.definition.specs.declared.Match.the-variants.{To, Nothing}
-use Rattle.scan.specs.Stops.{goes-on}
-use Rattle.scan.proofs.ByteLaws.{has-within, has-past}
+use Rattle.stops.specs.Stops.{goes-on}
+use Rattle.peeks.proofs.ByteLaws.{has-within, has-past}
 use Rattle.string_moves.specs.declared.Move.{Move}
 use Rattle.string_moves.specs.declared.Move.the-variants.{Copy, Skip, Line, Char, Surrogate, Close, Open}
 use Rattle.string_moves.specs.Moves.{escape-move, last-move, stop-move, broken-line, string-move}

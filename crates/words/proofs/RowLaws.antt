@@ -21,7 +21,7 @@ use Rattle.definition.specs.declared.Match.{Match}
 use Rattle.definition.specs.declared.Match.the-variants.{To, Nothing}
 use Rattle.lemmas.proofs.Cases.{by-outcome, by-test, by-order, by-if-lt, both}
 use Rattle.progress.proofs.Walks.{byte-passes}
-use Rattle.scan.proofs.ByteLaws.{has-within, has-past}
+use Rattle.peeks.proofs.ByteLaws.{has-within, has-past}
 use Rattle.words.specs.Rows.{Row, numbered, try-rows, first-fit, only-rows, starts-with, starts-two}
 
 -- no row

@@ -16,7 +16,7 @@ use Rattle.definition.specs.Tables.{Entry}
 use Rattle.definition.specs.Matchers.{match-lit}
 use Rattle.definition.specs.declared.Match.the-variants.{To, Nothing}
 use Rattle.lemmas.proofs.Cases.{both}
-use Rattle.scan.proofs.ByteLaws.{lit-on, lit-stop, lit-done}
+use Rattle.peeks.proofs.ByteLaws.{lit-on, lit-stop, lit-done}
 use Rattle.words.specs.Rows.{Row, numbered, pad, padded}
 use Rattle.words.proofs.RowLaws.{no-row, word-at}
 

@@ -6,8 +6,8 @@
 // Assumed: the table of operator characters where it is lent.
 use definition::Choice;
 use definition::Match;
-use scan::bytes::byte_is;
-use scan::runs::plus_op_char;
+use peeks::byte_is;
+use scan::plus_op_char;
 ghost use mathlib.Core.Path.{_≡_};
 ghost use mathlib.Core.List.{[]};
 ghost use Prim.Native.Nat.{_<_};

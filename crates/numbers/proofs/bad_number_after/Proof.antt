@@ -1,6 +1,6 @@
 -- `bad_number_after` is the latest of identifier characters behind three ends.
 use Rattle.numbers.specs.Parts.{bad-number-behind}
-use Rattle.numbers.proofs.NumberLaws.{then-of, later-of}
+use Rattle.integers.proofs.IntegerLaws.{then-of, later-of}
 use borrow.Author.Needs.{needs}
 use Rattle.numbers.proofs.bad_number_after.Statement.{statement}
 use Rattle.numbers.proofs.bad_number_after.Tie as tie

@@ -1,7 +1,7 @@
 -- `exponent` is the definition's exponent: digits behind e or E and an optional sign.
 use mathlib.Core.Path.{sym, _∙_}
 use Rattle.definition.specs.Matchers.{is-e}
-use Rattle.scan.proofs.ByteLaws.{has-inside}
+use Rattle.peeks.proofs.ByteLaws.{has-inside}
 use Rattle.numbers.proofs.NumberLaws.{exponent-yes, exponent-no}
 use borrow.Author.Needs.{needs}
 use native.Mathlib.Omega.{arith}

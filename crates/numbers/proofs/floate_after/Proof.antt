@@ -1,6 +1,7 @@
 -- `floate_after` is the later of an exponent behind the digits and one behind a fraction there.
 use mathlib.Core.Path.{_∙_}
-use Rattle.numbers.proofs.NumberLaws.{then-of, later-of, float-is}
+use Rattle.integers.proofs.IntegerLaws.{then-of, later-of}
+use Rattle.numbers.proofs.NumberLaws.{float-is}
 use borrow.Author.Needs.{needs}
 use Rattle.numbers.proofs.floate_after.Statement.{statement}
 use Rattle.numbers.proofs.floate_after.Tie as tie

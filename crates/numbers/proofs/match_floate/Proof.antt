@@ -1,6 +1,7 @@
 -- `match_floate` is the definition's `match-floate`: an exponent behind the digits.
 use mathlib.Core.Path.{_∙_}
-use Rattle.numbers.proofs.NumberLaws.{then-of, floate-is}
+use Rattle.integers.proofs.IntegerLaws.{then-of}
+use Rattle.numbers.proofs.NumberLaws.{floate-is}
 use borrow.Author.Needs.{needs}
 use Rattle.numbers.proofs.match_floate.Statement.{statement}
 use Rattle.numbers.proofs.match_floate.Tie as tie

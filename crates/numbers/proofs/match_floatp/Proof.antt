@@ -1,6 +1,7 @@
 -- `match_floatp` is the definition's `match-floatp`: a fraction behind the digits.
 use mathlib.Core.Path.{_∙_}
-use Rattle.numbers.proofs.NumberLaws.{then-of, floatp-is}
+use Rattle.integers.proofs.IntegerLaws.{then-of}
+use Rattle.numbers.proofs.NumberLaws.{floatp-is}
 use borrow.Author.Needs.{needs}
 use Rattle.numbers.proofs.match_floatp.Statement.{statement}
 use Rattle.numbers.proofs.match_floatp.Tie as tie

@@ -1,6 +1,7 @@
 -- `match_real` is the definition's `match-real`: a float with an R behind it.
 use mathlib.Core.Path.{_∙_}
-use Rattle.numbers.proofs.NumberLaws.{then-of, real-is}
+use Rattle.integers.proofs.IntegerLaws.{then-of}
+use Rattle.numbers.proofs.NumberLaws.{real-is}
 use borrow.Author.Needs.{needs}
 use Rattle.numbers.proofs.match_real.Statement.{statement}
 use Rattle.numbers.proofs.match_real.Tie as tie

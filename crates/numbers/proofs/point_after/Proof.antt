@@ -1,7 +1,7 @@
 -- `point_after` goes on from digits that were found, if a point stands behind them.
 use mathlib.Core.Path.{sym, _∙_}
 use Rattle.numbers.specs.Parts.{point}
-use Rattle.scan.proofs.ByteLaws.{has-inside}
+use Rattle.peeks.proofs.ByteLaws.{has-inside}
 use borrow.Author.Needs.{needs}
 use native.Mathlib.Omega.{arith}
 use Rattle.numbers.proofs.point_after.Statement.{statement}

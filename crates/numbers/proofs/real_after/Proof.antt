@@ -1,7 +1,7 @@
 -- `real_after` is an R behind the float's end.
 use mathlib.Core.Path.{sym, _∙_}
 use Rattle.numbers.specs.Parts.{real-end}
-use Rattle.scan.proofs.ByteLaws.{has-inside}
+use Rattle.peeks.proofs.ByteLaws.{has-inside}
 use native.Mathlib.Omega.{arith}
 use borrow.Author.Needs.{needs}
 use Rattle.numbers.proofs.real_after.Statement.{statement}

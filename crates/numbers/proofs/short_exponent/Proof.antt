@@ -2,7 +2,7 @@
 use mathlib.Core.Path.{sym, _∙_}
 use borrow.Author.Tests.{not-true, not-false}
 use Rattle.definition.specs.Matchers.{is-e}
-use Rattle.scan.proofs.ByteLaws.{has-inside}
+use Rattle.peeks.proofs.ByteLaws.{has-inside}
 use Rattle.numbers.proofs.NumberLaws.{short-no, short-none, short-yes}
 use borrow.Author.Needs.{needs}
 use native.Mathlib.Omega.{arith}

@@ -1,6 +1,6 @@
 -- `short_float` is the later of a short exponent behind the digits and one behind their fraction.
 use Rattle.numbers.specs.Parts.{short-float}
-use Rattle.numbers.proofs.NumberLaws.{later-of}
+use Rattle.integers.proofs.IntegerLaws.{later-of}
 use borrow.Author.Needs.{needs}
 use Rattle.numbers.proofs.short_float.Statement.{statement}
 use Rattle.numbers.proofs.short_float.Tie as tie

@@ -1,7 +1,7 @@
 -- `skip_sign` is the definition's `skip-sign`.
 use mathlib.Core.Path.{sym, _∙_}
 use Rattle.definition.specs.Matchers.{skip-sign}
-use Rattle.scan.proofs.ByteLaws.{has-inside}
+use Rattle.peeks.proofs.ByteLaws.{has-inside}
 use borrow.Author.Needs.{needs}
 use native.Mathlib.Omega.{arith}
 use Rattle.numbers.proofs.skip_sign.Statement.{statement}

@@ -1,6 +1,6 @@
 -- A line's end is looked for behind a backslash.
 use mathlib.Core.Path.{sym, _∙_}
-use Rattle.scan.proofs.ByteLaws.{has-inside}
+use Rattle.peeks.proofs.ByteLaws.{has-inside}
 use Rattle.string_moves.proofs.MoveLaws.{broken-on, broken-off}
 use native.Mathlib.Omega.{arith}
 use borrow.Author.Needs.{needs}

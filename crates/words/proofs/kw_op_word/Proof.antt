@@ -7,7 +7,7 @@ use lib.ListN.{drop}
 use borrow.Author.Tests.{not-true, not-false}
 use Rattle.definition.specs.Utf8.{encode, encode-all}
 use Rattle.definition.specs.Tables.{cps, kw-op-rules}
-use Rattle.scan.proofs.ByteLaws.{has-inside}
+use Rattle.peeks.proofs.ByteLaws.{has-inside}
 use Rattle.words.specs.Rows.{first-fit}
 use Rattle.words.proofs.RowLaws.{next-word, this-word, none-left}
 use Rattle.words.proofs.TableLaws.{Comparing, compared, compare-index, compare-stop, compare-on, compare-start, row-length}

@@ -9,7 +9,7 @@ use Rattle.definition.specs.Utf8.{encode, encode-all}
 use Rattle.definition.specs.Tables.{cps, early-literals}
 use Rattle.definition.specs.Matchers.{match-lit}
 use Rattle.definition.specs.Select.{none-at, try-words}
-use Rattle.scan.proofs.ByteLaws.{has-inside}
+use Rattle.peeks.proofs.ByteLaws.{has-inside}
 use Rattle.words.specs.Rows.{try-rows}
 use Rattle.words.proofs.RowLaws.{none-start, keep-later, words-rows, row-skip, row-take, row-done}
 use Rattle.words.proofs.TableLaws.{Comparing, compared, compare-index, compare-stop, compare-on, compare-start, row-length, own-number}

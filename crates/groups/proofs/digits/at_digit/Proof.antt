@@ -1,6 +1,6 @@
 -- `at_digit` is the best of places 16 to 27: the ends of the digits and of the fraction are found once and handed to each.
 use mathlib.Core.Path.{ap}
-use Rattle.numbers.specs.declared.IntegerEnds.{IntegerEnds}
+use Rattle.integers.specs.declared.IntegerEnds.{IntegerEnds}
 use Rattle.numbers.proofs.NumberLaws.{real-of, bad-number-of}
 use Rattle.groups.proofs.Chains.{placed}
 use borrow.Author.Needs.{needs}

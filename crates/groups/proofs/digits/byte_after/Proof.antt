@@ -2,7 +2,7 @@
 use mathlib.Core.Path.{_∙_}
 use Rattle.definition.specs.Tables.{cps}
 use Rattle.definition.specs.Utf8.{encode, encode-all}
-use Rattle.numbers.proofs.NumberLaws.{later-of, ends-of, suffix-is, usuffix-is}
+use Rattle.integers.proofs.IntegerLaws.{later-of, ends-of, suffix-is, usuffix-is}
 use borrow.Author.Needs.{needs}
 use Rattle.groups.proofs.digits.byte_after.Statement.{statement}
 use Rattle.groups.proofs.digits.byte_after.Tie as tie

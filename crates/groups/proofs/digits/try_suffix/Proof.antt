@@ -1,7 +1,7 @@
 -- `try_suffix` is the better of the best so far and a suffix behind either end.
 use mathlib.Core.Path.{refl, _∙_}
 use Rattle.groups.proofs.Chains.{placed}
-use Rattle.numbers.proofs.NumberLaws.{ends-of, suffix-is}
+use Rattle.integers.proofs.IntegerLaws.{ends-of, suffix-is}
 use borrow.Author.Needs.{needs}
 use Rattle.groups.proofs.digits.try_suffix.Statement.{statement}
 use Rattle.groups.proofs.digits.try_suffix.Tie as tie

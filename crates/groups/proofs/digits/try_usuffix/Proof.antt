@@ -1,7 +1,7 @@
 -- `try_usuffix` is the better of the best so far and a suffix behind either end, with a u before it.
 use mathlib.Core.Path.{refl, _∙_}
 use Rattle.groups.proofs.Chains.{placed}
-use Rattle.numbers.proofs.NumberLaws.{ends-of, usuffix-is}
+use Rattle.integers.proofs.IntegerLaws.{ends-of, usuffix-is}
 use borrow.Author.Needs.{needs}
 use Rattle.groups.proofs.digits.try_usuffix.Statement.{statement}
 use Rattle.groups.proofs.digits.try_usuffix.Tie as tie

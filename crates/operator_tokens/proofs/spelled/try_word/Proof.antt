@@ -5,7 +5,7 @@ use Rattle.operator_tokens.proofs.spelled.try_word.Statement.{statement
 use Rattle.operator_tokens.proofs.spelled.try_word.Tie as tie
 use Rattle.operator_tokens.proofs.spelled.try_word.Reads as reads
 use Rattle.operator_tokens.proofs.spelled.try_word.Lts as lts
-use Rattle.scan.proofs.bytes.match_lit.Reads as match-lit-reads
+use Rattle.peeks.proofs.match_lit.Reads as match-lit-reads
 use Rattle.words.proofs.keep.Reads as keep-reads
 use Rattle.words.proofs.nothing.Reads as nothing-reads
 

@@ -1,7 +1,7 @@
 -- Within the text the byte decides.
 use mathlib.Core.Path.{sym}
 use lib.Dec.{leb}
-use Rattle.scan.proofs.ByteLaws.{has-within, has-past}
+use Rattle.peeks.proofs.ByteLaws.{has-within, has-past}
 use borrow.Author.Needs.{needs}
 use Rattle.steps.proofs.white.beyond_ascii_at.Statement.{statement}
 use Rattle.steps.proofs.white.beyond_ascii_at.Tie as tie

@@ -1,6 +1,6 @@
 -- `blank_at` is the definition's test at a byte: within the text the byte decides.
 use mathlib.Core.Path.{sym, _∙_}
-use Rattle.scan.proofs.ByteLaws.{has-within, has-past}
+use Rattle.peeks.proofs.ByteLaws.{has-within, has-past}
 use borrow.Author.Needs.{needs}
 use Rattle.steps.proofs.white.blank_at.Statement.{statement}
 use Rattle.steps.proofs.white.blank_at.Tie as tie

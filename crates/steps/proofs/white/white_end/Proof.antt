@@ -4,7 +4,7 @@ use mathlib.Core.Path.{_≡_, refl, sym, _∙_}
 use lib.ListN.{length}
 use Rattle.definition.specs.Text.{star}
 use Rattle.definition.specs.Chars.{is-anywhite}
-use Rattle.scan.proofs.ByteLaws.{has-inside}
+use Rattle.peeks.proofs.ByteLaws.{has-inside}
 use Rattle.steps.proofs.WhiteLaws.{white-on, white-stops}
 use borrow.Author.Needs.{needs}
 use native.Mathlib.Omega.{arith}

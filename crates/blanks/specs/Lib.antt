@@ -1,0 +1,2 @@
+-- `Blanks` is the white space of ASCII.
+pub mod Blanks

@@ -1,0 +1,2 @@
+-- What belongs to no one function. `SearchLaws`: the search among ascending ranges.
+pub mod SearchLaws

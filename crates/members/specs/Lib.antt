@@ -1,0 +1,2 @@
+-- `Search` is what the search among ranges answers.
+pub mod Search

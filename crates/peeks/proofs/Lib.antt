@@ -1,0 +1,2 @@
+-- What belongs to no one function. `ByteLaws`: tests of a byte, literals, the later of two ends, comments.
+pub mod ByteLaws

@@ -1,0 +1,2 @@
+-- What belongs to no one function. `QuoteLaws`: escapes, and names in backticks.
+pub mod QuoteLaws

@@ -1,0 +1,2 @@
+-- `Parts`: parts of the definition's matchers that have a function of their own.
+pub mod Parts
