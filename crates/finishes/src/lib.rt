@@ -4,7 +4,6 @@
 // rulings are carried out by one `finish`: a token's positions are asked for in one place, whatever its rule.
 // Assumed: nothing but what each function's `requires` says: a reader stands in a sound state of a legal text, the choice
 // ends behind it (`Chose`), and the ruling fits the text (`Fits`).
-use line_comments::line_comment;
 use definition::Extra;
 use described::Payload;
 use described::Place;
@@ -12,6 +11,7 @@ use described::Read;
 use described::tokens::lex_error;
 use described::tokens::token;
 use escapes::unescape;
+use line_comments::line_comment;
 use positions::pos_of;
 use rulings::Ruling;
 ghost use Rattle.definition.specs.Basics.{Bytes};

@@ -1,14 +1,14 @@
 // Characters beyond ASCII: each place reads on behind a character that is decoded already.
 use crate::choice::alone;
 use attempts::try_place;
+use blanks::star_anywhite;
 use chars::is_anywhite;
 use chars::is_constructor_start;
 use chars::is_ident_start;
-use fixed_chars::is_newline_char;
 use chars::is_uoperator;
 use definition::Choice;
 use definition::Match;
-use blanks::star_anywhite;
+use fixed_chars::is_newline_char;
 use scan::star_ident_char;
 use words::keep;
 use words::kw_op;

@@ -1,8 +1,8 @@
 // White space and line ends of ASCII.
 use attempts::found;
+use blanks::plus_anywhite;
 use definition::Choice;
 use matchers::match_newline;
-use blanks::plus_anywhite;
 ghost use mathlib.Core.Path.{_≡_};
 ghost use Rattle.definition.specs.ClassFile.{class-check};
 ghost use Rattle.definition.specs.Chars.{is-anywhite};

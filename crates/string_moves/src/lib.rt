@@ -4,15 +4,15 @@
 // `string-turn`; it ends behind the offset and within the text, and an escape stands for fewer bytes than it has. How many bytes a
 // move adds to the literal, and where it ends, are what specs/Ends.antt says.
 // Assumed: nothing but what `string_move` requires: the class file is accepted.
+use blanks::star_anywhite;
 use definition::Match;
 use described::span;
 use escapes::encode_length;
 use escapes::is_surrogate;
 use escapes::unescape;
 use matchers::match_newline;
-use quoted::match_escape;
 use peeks::byte_is;
-use blanks::star_anywhite;
+use quoted::match_escape;
 use stops::run_end;
 ghost use mathlib.Core.Path.{_≡_};
 ghost use Rattle.definition.specs.ClassFile.{class-check};
