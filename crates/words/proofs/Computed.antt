@@ -1,15 +1,14 @@
--- What is computed over the definition's tables: no keyword-operator word begins another, which bytes early literals begin with, and every
--- word fits its row. Rests on the laws of tables.
+-- What is computed over the definition's tables: no keyword-operator word begins another, which two bytes the words begin with, and every word
+-- fits its row. Rests on the laws of tables.
 use Prim.Native.Nat.{ℕ, _<_}
-use mathlib.Core.Path.{_≡_, refl, sym, ap, _∙_}
-use mathlib.Core.Bool.{Bool, true, false}
+use mathlib.Core.Path.{_≡_, refl}
+use mathlib.Core.Bool.{true}
 use mathlib.Core.List.{List, [], _∷_, map}
-use native.Mathlib.Omega.{arith}
 use lib.ListN.{length, getD}
 use Rattle.definition.specs.Utf8.{encode, encode-all}
 use Rattle.definition.specs.Chars.{count-up}
 use Rattle.definition.specs.Tables.{cps, early-literals, kw-op-rules}
-use Rattle.words.specs.Rows.{Row, numbered, only-rows, early-pair}
+use Rattle.words.specs.Rows.{Row, numbered, only-rows, early-pair, kw-op-pair}
 use Rattle.words.proofs.RowLaws.{no-row, word-at, is-empty, is-short, all-begin, touches}
 use Rattle.words.proofs.TableLaws.{all-short, same-each}
 
@@ -36,9 +35,19 @@ unfolding early-literals cps encode-all encode
 early-long = refl
 
 -- and begins with two bytes that one may begin with.
-pub early-pairs : all-begin early-pair early ≡ true
+pub early-pairs : (b : ℕ) → all-begin early-pair b early ≡ true
 unfolding early-literals cps encode-all encode
-early-pairs = refl
+early-pairs b = refl
+
+-- Each keyword-operator word has a byte or more,
+pub kw-long : only-rows (λ (r : Row). is-empty (r .1)) kw-ops ≡ []
+unfolding kw-op-rules cps encode-all encode
+kw-long = refl
+
+-- and begins with two bytes that one may begin with, whatever is behind the semicolon.
+pub kw-pairs : (b : ℕ) → all-begin kw-op-pair b kw-ops ≡ true
+unfolding kw-op-rules cps encode-all encode
+kw-pairs b = refl
 
 -- ---- how many rows there are
 
@@ -65,12 +74,3 @@ all-apart = refl
 pub kw-apart : (k : ℕ) → k < 9 → only-rows (λ (r : Row). touches (word-at kw-ops k) (r .1)) kw-ops ≡ getD kw-ops k no-row ∷ []
 unfolding touching
 kw-apart k h = same-each touching (λ k. getD kw-ops k no-row ∷ []) 9 [] all-apart k h
-
--- None of them is empty: computed for each,
-all-full : map (λ k. is-empty (word-at kw-ops k)) (count-up 0 9) ≡ map (λ k. false) (count-up 0 9)
-unfolding kw-op-rules cps encode-all encode count-up
-all-full = refl
-
--- and so of each.
-pub kw-full : (k : ℕ) → k < 9 → is-empty (word-at kw-ops k) ≡ false
-kw-full k h = same-each (λ k. is-empty (word-at kw-ops k)) (λ k. false) 9 false all-full k h

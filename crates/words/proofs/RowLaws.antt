@@ -1,17 +1,16 @@
 -- Rows tried in turn: one row after another, rows that can be left out since their words don't stand in the text, and the first that fits.
 -- Rests on the definition of `try-words` and of `match-lit`.
 use Prim.Native.Nat.{ℕ, zero, suc, _+_, _≤_, _<_}
-use mathlib.Core.Path.{_≡_, refl, sym, ap, subst, _∙_}
+use mathlib.Core.Path.{_≡_, refl, sym, ap, _∙_}
 use mathlib.Core.Bool.{Bool, true, false, not, _&&_, _||_, false≢true}
 use mathlib.Core.List.{List, [], _∷_}
-use native.Mathlib.Nat.{add-zero}
 use native.Mathlib.Numerals.{add-one}
 use native.Mathlib.Omega.{arith}
-use lib.Dec.{ltb, eqb}
+use lib.Dec.{eqb}
 use lib.ListN.{length, getD, drop, take, drop-of-length-le, length-take}
 use lib.Seq.{slice, slice-cons, drop-cons}
 use borrow.Author.Tests.{lt-ltb, le-ltb, not-false, eqb-true, eqb-false, eq-eqb, ne-eqb}
-use Rattle.definition.specs.Basics.{Bytes, if_then_else_}
+use Rattle.definition.specs.Basics.{Bytes}
 use Rattle.definition.specs.Text.{byte-is}
 use Rattle.definition.specs.Tables.{Entry, cps}
 use Rattle.definition.specs.Matchers.{match-lit}
@@ -89,6 +88,15 @@ module _ (i place : ℕ) (m : Bytes → Match) where
       (λ t. rw (t, only-rows) (rows-left q none rs (keep best (found i place (r .0) (m (r .1)))) (keep-later best (found i place (r .0) (m (r .1))) h)))
       (λ t. rw (t, only-rows, keep-none best (r .0) (none r t) h) (rows-left q none rs best h))
 
+  -- Where all rows of a table can be left out nothing is chosen.
+  pub all-left : (q : Row → Bool) → ((r : Row) → q r ≡ false → m (r .1) ≡ Nothing) → (es : List Entry) → only-rows q (numbered 0 es) ≡ []
+      → try-words i place m 0 es (none-at i) ≡ none-at i
+  unfolding try-rows
+  all-left q none es e =
+      words-rows 0 es (none-at i)
+      ∙ rows-left q none (numbered 0 es) (none-at i) (omega arith)
+      ∙ ap (λ (rs : List Row). try-rows i place m rs (none-at i)) e
+
   -- A single row whose word isn't there gives nothing.
   pub row-missing : (r : Row) → m (r .1) ≡ Nothing → try-rows i place m (r ∷ []) (none-at i) ≡ none-at i
   unfolding try-rows
@@ -112,28 +120,33 @@ is-short [] = true
 is-short (c ∷ []) = true
 is-short (c ∷ d ∷ l) = false
 
--- a word of two bytes or more, which pass a test
-abbrev begins-two : (ℕ → ℕ → Bool) → Bytes → Bool
-begins-two t [] = false
-begins-two t (c ∷ []) = false
-begins-two t (c ∷ d ∷ l) = t c d
+-- a word of a byte or more, whose first two pass a test; b is the second where it has but one
+abbrev begins-two : (ℕ → ℕ → Bool) → ℕ → Bytes → Bool
+begins-two t b [] = false
+begins-two t b (c ∷ []) = t c b
+begins-two t b (c ∷ d ∷ l) = t c d
 
 -- the words of all rows are such
-abbrev pub all-begin : (ℕ → ℕ → Bool) → List Row → Bool
-all-begin t [] = true
-all-begin t (r ∷ rs) = begins-two t (r .1) && all-begin t rs
+abbrev pub all-begin : (ℕ → ℕ → Bool) → ℕ → List Row → Bool
+all-begin t b [] = true
+all-begin t b (r ∷ rs) = begins-two t b (r .1) && all-begin t b rs
 
--- Then no word may stand where two bytes do that don't pass it.
-pub none-begins : (t : ℕ → ℕ → Bool) (rs : List Row) → all-begin t rs ≡ true → (a b : ℕ) → t a b ≡ false → only-rows (λ r. starts-two a b (r .1)) rs ≡ []
-none-begins t [] e a b n = refl
-none-begins t ((k, []) ∷ rs) e a b n = absurd (false≢true e)
-none-begins t ((k, c ∷ []) ∷ rs) e a b n = absurd (false≢true e)
-none-begins t ((k, c ∷ d ∷ l) ∷ rs) e a b n =
-    let g = both (t c d) (all-begin t rs) e in
-    by-outcome (eqb c a && eqb d b)
-    (λ q. let h = both (eqb c a) (eqb d b) q in
-    absurd (false≢true (sym n ∙ sym (ap (λ (x : ℕ). t x b) (eqb-true c a (h .0))) ∙ sym (ap (t c) (eqb-true d b (h .1))) ∙ g .0)))
-    (λ q. rw (q, only-rows) (none-begins t rs (g .1) a b n))
+-- Then a word that may stand where the bytes a and b do shows that these pass it,
+begins-passes : (t : ℕ → ℕ → Bool) (a b : ℕ) (w : Bytes) → begins-two t b w ≡ true → starts-two a b w ≡ true → t a b ≡ true
+begins-passes t a b [] e q = absurd (false≢true e)
+begins-passes t a b (c ∷ []) e q = sym (ap (λ (x : ℕ). t x b) (eqb-true c a q)) ∙ e
+begins-passes t a b (c ∷ d ∷ l) e q =
+    let h = both (eqb c a) (eqb d b) q in
+    sym (ap (λ (x : ℕ). t x b) (eqb-true c a (h .0))) ∙ sym (ap (t c) (eqb-true d b (h .1))) ∙ e
+
+-- so none may stand where two bytes do that don't.
+pub none-begins : (t : ℕ → ℕ → Bool) (a b : ℕ) (rs : List Row) → all-begin t b rs ≡ true → t a b ≡ false → only-rows (λ r. starts-two a b (r .1)) rs ≡ []
+none-begins t a b [] e n = refl
+none-begins t a b (r ∷ rs) e n =
+    let g = both (begins-two t b (r .1)) (all-begin t b rs) e in
+    by-outcome (starts-two a b (r .1))
+    (λ q. absurd (false≢true (sym n ∙ begins-passes t a b (r .1) (g .0) q)))
+    (λ q. rw (q, only-rows) (none-begins t a b rs (g .1) n))
 
 -- a word may stand where the byte b doesn't
 abbrev pub starts-other : ℕ → Bytes → Bool
@@ -169,7 +182,7 @@ module _ (s : Bytes) where
   pub other-two : (i : ℕ) → i < length s → (w : Bytes) → starts-two (getD s i 0) (getD s (i + 1) 0) w ≡ false → match-lit s w i ≡ Nothing
   unfolding match-lit
   other-two i h [] e = absurd (false≢true (sym e))
-  other-two i h (c ∷ []) e = absurd (false≢true (sym e))
+  other-two i h (c ∷ []) e = other-start i h (c ∷ []) e
   other-two i h (c ∷ d ∷ l) e =
       by-outcome (eqb c (getD s i 0))
       (λ q. by-test (λ n. n ≡ Nothing) (byte-is c s i) (λ _. second (sym (ap (λ (t : Bool). t && eqb d (getD s (i + 1) 0)) q) ∙ e)) (λ _. refl))

@@ -1,41 +1,44 @@
--- What the code's searches find is what trying every word of the definition's table gives: early literals where one may begin, and the
--- first keyword operator that fits. Rests on the laws of rows and on what is computed.
+-- What the code's searches find is what trying every word of the definition's table gives: nothing where two bytes begin no word, and
+-- the first keyword operator that fits. Rests on the laws of rows and on what is computed.
 use Prim.Native.Nat.{ℕ, _+_, _≤_, _<_}
-use mathlib.Core.Path.{_≡_, refl, sym, ap, subst, _∙_}
-use mathlib.Core.Bool.{Bool, true, false}
+use mathlib.Core.Path.{_≡_, sym, ap, _∙_}
+use mathlib.Core.Bool.{Bool, true, false, false≢true}
 use mathlib.Core.List.{List, [], _∷_}
 use native.Mathlib.Omega.{arith}
 use lib.ListN.{length, getD}
 use Rattle.definition.specs.Basics.{Bytes}
 use Rattle.definition.specs.Chars.{is-op-char}
-use Rattle.definition.specs.Tables.{early-literals, kw-op-rules}
+use Rattle.definition.specs.Tables.{Entry, early-literals, kw-op-rules}
 use Rattle.definition.specs.Matchers.{_then_, match-lit, plus}
 use Rattle.definition.specs.Select.{none-at, try-words}
 use Rattle.definition.specs.declared.Choice.{Choice}
 use Rattle.definition.specs.declared.Match.{Match}
 use Rattle.definition.specs.declared.Match.the-variants.{To, Nothing}
-use Rattle.lemmas.proofs.Cases.{by-order}
+use Rattle.lemmas.proofs.Cases.{by-found}
 use Rattle.progress.proofs.Matches.{plus-ends}
-use Rattle.words.specs.Rows.{Row, numbered, try-rows, first-fit, starts-two, early-pair}
+use Rattle.words.specs.Rows.{Row, numbered, try-rows, first-fit, starts-two, early-pair, kw-op-pair}
 use Rattle.words.proofs.RowLaws.{
   no-row,
   word-at,
   words-rows,
   rows-left,
+  all-left,
   row-missing,
   row-alone,
+  is-empty,
   is-short,
+  all-begin,
   other-two,
   none-begins,
   past-two,
   touches,
-  past-end,
+  lit-end,
   apart,
   fit-there,
   fit-none,
 }
 use Rattle.words.proofs.TableLaws.{own-number}
-use Rattle.words.proofs.Computed.{early-long, early-pairs, kw-ops, kw-count, kw-entries, kw-apart, kw-full}
+use Rattle.words.proofs.Computed.{early-long, early-pairs, kw-ops, kw-long, kw-pairs, kw-count, kw-entries, kw-apart}
 
 module _ (s : Bytes) (i : ℕ) where
   -- ---- keyword operators
@@ -61,12 +64,6 @@ module _ (s : Bytes) (i : ℕ) where
     kw-there : match-lit s (word-at kw-ops k) i ≡ To (i + length (word-at kw-ops k))
     kw-there = rw e (fit-there s i kw-ops (omega (arith, kw-count)))
 
-    -- so i is within the text,
-    pub kw-inside : i < length s
-    kw-inside =
-        by-order i (length s) (λ l. l)
-        (λ l. let q : Nothing ≡ To (i + length (word-at kw-ops k)) = sym (past-end s i l (word-at kw-ops k) (kw-full k h)) ∙ kw-there in absurd (let z : _≡_ {A = ℕ} 0 1 = cc in omega arith))
-
     -- and no other word is there.
     kw-alone : kw-choice ≡ try-rows i 12 kw-match (getD kw-ops k no-row ∷ []) (none-at i)
     kw-alone =
@@ -89,21 +86,42 @@ module _ (s : Bytes) (i : ℕ) where
         chosen : {x y : ℕ} → x ≡ y → _≡_ {A = Choice} (record { place = 12; end = e; word = y }) (record { place = 12; end = e; word = x })
         chosen z = rw z
 
-  -- ---- early literals
+  -- ---- where no word begins
 
-  -- Where none begins with the text's bytes none is there.
+  -- Where no word of a table begins with the text's two bytes nothing is chosen.
+  none-two : (place : ℕ) (m : Bytes → Match) → ((w : Bytes) → match-lit s w i ≡ Nothing → m w ≡ Nothing) → (t : ℕ → ℕ → Bool) (es : List Entry)
+      → ((b : ℕ) → all-begin t b (numbered 0 es) ≡ true) → i < length s → t (getD s i 0) (getD s (i + 1) 0) ≡ false
+      → try-words i place m 0 es (none-at i) ≡ none-at i
+  none-two place m none t es pairs h e =
+      let a = getD s i 0 in
+      let b = getD s (i + 1) 0 in
+      all-left i place m (λ r. starts-two a b (r .1)) (λ r u. none (r .1) (other-two s i h (r .1) u)) es (none-begins t a b (numbered 0 es) (pairs b) e)
+
+  -- So of the early literals,
   pub early-none : i < length s → early-pair (getD s i 0) (getD s (i + 1) 0) ≡ false
       → try-words i 1 (λ w. match-lit s w i) 0 early-literals (none-at i) ≡ none-at i
-  unfolding try-rows
-  early-none h e =
-      words-rows i 1 (λ w. match-lit s w i) 0 early-literals (none-at i)
-      ∙ rows-left i 1 (λ w. match-lit s w i) (λ r. starts-two (getD s i 0) (getD s (i + 1) 0) (r .1)) (λ r t. other-two s i h (r .1) t) (numbered 0 early-literals) (none-at i) (omega arith)
-      ∙ ap (λ (rs : List Row). try-rows i 1 (λ w. match-lit s w i) rs (none-at i)) (none-begins early-pair (numbered 0 early-literals) early-pairs (getD s i 0) (getD s (i + 1) 0) e)
+  early-none = none-two 1 (λ w. match-lit s w i) (λ w q. q) early-pair early-literals early-pairs
 
-  -- Nor at the text's last byte, nor past it: each has two bytes or more.
+  -- and of the keyword operators.
+  pub kw-begins-none : i < length s → kw-op-pair (getD s i 0) (getD s (i + 1) 0) ≡ false → kw-choice ≡ none-at i
+  kw-begins-none = none-two 12 kw-match kw-nothing kw-op-pair kw-op-rules kw-pairs
+
+  -- Nothing is chosen at the text's last byte either, nor past it: each early literal has two bytes or more,
   pub early-past : length s ≤ i + 1 → try-words i 1 (λ w. match-lit s w i) 0 early-literals (none-at i) ≡ none-at i
-  unfolding try-rows
-  early-past h =
-      words-rows i 1 (λ w. match-lit s w i) 0 early-literals (none-at i)
-      ∙ rows-left i 1 (λ w. match-lit s w i) (λ r. is-short (r .1)) (λ r t. past-two s i h (r .1) t) (numbered 0 early-literals) (none-at i) (omega arith)
-      ∙ ap (λ (rs : List Row). try-rows i 1 (λ w. match-lit s w i) rs (none-at i)) early-long
+  early-past h = all-left i 1 (λ w. match-lit s w i) (λ r. is-short (r .1)) (λ r t. past-two s i h (r .1) t) early-literals early-long
+
+  -- and a keyword operator has a byte or more, and an operator character behind it.
+  pub kw-past : length s ≤ i + 1 → kw-choice ≡ none-at i
+  kw-past h = all-left i 12 kw-match (λ r. is-empty (r .1)) (λ r t. last (r .1) t) kw-op-rules kw-long
+    where
+      -- Past the end there is no operator character.
+      behind : (j : ℕ) → length s ≤ j → plus is-op-char s j ≡ Nothing
+      behind j l = by-found (plus is-op-char s j) (λ e q. let o = plus-ends s is-op-char j .at q in absurd (omega (arith, o .past, o .within))) (λ q. q)
+
+      -- So a word that reaches it has none behind it.
+      last : (w : Bytes) → is-empty w ≡ false → kw-match w ≡ Nothing
+      last [] t = absurd (false≢true (sym t))
+      last (c ∷ w) t =
+          by-found (match-lit s (c ∷ w) i)
+          (λ j q. ap (λ (m : Match). m then plus is-op-char s) q ∙ behind j (omega (arith, lit-end s (c ∷ w) i q)))
+          (kw-nothing (c ∷ w))

@@ -50,16 +50,26 @@ abbrev pub starts-with : ℕ → Bytes → Bool
 starts-with b [] = true
 starts-with b (c ∷ l) = eqb c b
 
--- a word of two bytes or more may stand where the bytes a and b do
+-- a word may stand where the bytes a and b do
 abbrev pub starts-two : ℕ → ℕ → Bytes → Bool
 starts-two a b [] = true
-starts-two a b (c ∷ []) = true
+starts-two a b (c ∷ []) = eqb c a
 starts-two a b (c ∷ d ∷ l) = eqb c a && eqb d b
 
 -- the two bytes that an early literal may begin with
 abbrev pub early-pair : ℕ → ℕ → Bool
 early-pair a b =
     if eqb a (ch "s") then eqb b (ch "e") else (if eqb a (ch "#") then between (ch "a") (ch "z") b else (if eqb a (ch "%") then eqb b (ch "s") else eqb a (ch "`")))
+
+-- the two bytes that a keyword-operator word may begin with: only behind the six letters of ASCII that begin one the second byte counts
+abbrev pub kw-op-pair : ℕ → ℕ → Bool
+kw-op-pair a b =
+    if eqb a (ch "m") then eqb b (ch "a") else
+    (if eqb a (ch "i") then eqb b (ch "f") else
+    (if eqb a (ch "l") then eqb b (ch "e") else
+    (if eqb a (ch "e") then eqb b (ch "x") else
+    (if eqb a (ch "f") then eqb b (ch "o") else
+    (if eqb a (ch "a") then eqb b (ch "n") else true)))))
 
 -- the operator tokens that may stand where the byte b does
 abbrev pub tokens-at : ℕ → List Row

@@ -6,20 +6,20 @@
 // Assumed: the table of operator characters where it is lent.
 use definition::Choice;
 use definition::Match;
+use fixed_chars::between;
 use peeks::byte_is;
 use scan::plus_op_char;
 ghost use mathlib.Core.Path.{_≡_};
 ghost use mathlib.Core.List.{[]};
 ghost use Prim.Native.Nat.{_<_};
 ghost use lib.ListN.{length, getD};
-ghost use Rattle.definition.specs.Basics.{between, ch};
 ghost use Rattle.definition.specs.Chars.{ascii-table, op-char-cps, is-op-char};
 ghost use Rattle.definition.specs.Kinds.{kind};
 ghost use Rattle.definition.specs.Tables.{cps, early-literals, kw-op-rules};
 ghost use Rattle.definition.specs.Matchers.{_then_, match-lit, plus};
 ghost use Rattle.definition.specs.Select.{none-at, keep, try-words};
 ghost use Rattle.definition.specs.Token.{entry};
-ghost use Rattle.words.specs.Rows.{numbered, padded, first-fit, early-pair};
+ghost use Rattle.words.specs.Rows.{numbered, padded, first-fit, early-pair, kw-op-pair};
 
 // "Fixed literal tokens that come first": the words, padded to the longest, with their lengths and kinds.
 const EARLY: [[u8; 20]; 15] = [
@@ -108,16 +108,6 @@ fn early_byte(k: usize, j: usize) -> u8
     EARLY[k][j]
 }
 
-// A small letter of ASCII.
-fn is_ascii_small(b: u8) -> bool
-    ensures { λ r. ⌜ r ≡ between (ch "a") (ch "z") b ⌝ }
-{
-    if b < b'a' {
-        return false;
-    }
-    b <= b'z'
-}
-
 // Whether an early literal may begin with two bytes.
 fn early_begins(a: u8, b: u8) -> bool
     ensures { λ r. ⌜ r ≡ early-pair a b ⌝ }
@@ -126,7 +116,7 @@ fn early_begins(a: u8, b: u8) -> bool
         return b == b'e';
     }
     if a == b'#' {
-        return is_ascii_small(b);
+        return between(b'a', b'z', b as u32);
     }
     if a == b'%' {
         return b == b's';
@@ -146,7 +136,7 @@ fn longest_early(text: &[u8], i: usize) -> Choice
         let n = EARLY_LENGTHS[k];
         let mut end = i;
         let mut j = 0;
-        'bytes: while j < n {
+        while j < n {
             if !byte_is(text, end, early_byte(k, j)) {
                 continue 'words;
             }
@@ -205,7 +195,7 @@ pub fn kw_op_word(text: &[u8], i: usize) -> usize
         let n = KW_OP_LENGTHS[k];
         let mut end = i;
         let mut j = 0;
-        'bytes: while j < n {
+        while j < n {
             if !byte_is(text, end, kw_op_byte(k, j)) {
                 k += 1;
                 continue 'words;
@@ -218,11 +208,47 @@ pub fn kw_op_word(text: &[u8], i: usize) -> usize
     k
 }
 
-// A keyword-operator word at i with operator characters behind it.
+// Whether a keyword-operator word may begin with two bytes. Where the first is no such letter they pass: a semicolon is a word by
+// itself, and the words beyond ASCII are rare.
+fn kw_op_begins(a: u8, b: u8) -> bool
+    ensures { λ r. ⌜ r ≡ kw-op-pair a b ⌝ }
+{
+    if a == b'm' {
+        return b == b'a';
+    }
+    if a == b'i' {
+        return b == b'f';
+    }
+    if a == b'l' {
+        return b == b'e';
+    }
+    if a == b'e' {
+        return b == b'x';
+    }
+    if a == b'f' {
+        return b == b'o';
+    }
+    if a == b'a' {
+        return b == b'n';
+    }
+    true
+}
+
+// A keyword-operator word at i with operator characters behind it. Many identifiers begin with a letter that such a word begins with, so
+// the table is built only where two bytes do.
 pub fn kw_op(text: &[u8], table: &[bool; 128], i: usize) -> Choice
     requires { ⌜ now table ≡ ascii-table op-char-cps ⌝ }
     ensures { λ r. ⌜ r ≡ try-words i 12 (λ w. match-lit (now (text .entry)) w i then plus is-op-char (now (text .entry))) 0 kw-op-rules (none-at i) ⌝ }
 {
+    if text.len() <= i {
+        return nothing(i);
+    }
+    if text.len() <= i + 1 {
+        return nothing(i);
+    }
+    if !kw_op_begins(text[i], text[i + 1]) {
+        return nothing(i);
+    }
     let word = kw_op_word(text, i);
     if 9 <= word {
         return nothing(i);

@@ -4,38 +4,29 @@ use mathlib.Core.Path.{_≡_, _∙_}
 use lib.Dec.{eqb}
 use Rattle.words.specs.Rows.{early-pair}
 use borrow.Author.Tests.{eq-eqb, ne-eqb}
-use native.Mathlib.Omega.{arith}
 use borrow.Author.Needs.{needs}
 use Rattle.words.proofs.early_begins.Statement.{statement}
 use Rattle.words.proofs.early_begins.Tie as tie
-use Rattle.words.proofs.early_begins.Reads as reads
-use Rattle.words.proofs.early_begins.Lts as lts
-use Rattle.words.proofs.is_ascii_small.Reads as is-ascii-small-reads
 
 -- A byte that is none of the first three is to be a backtick.
 backtick : (a b : ℕ) → (a ≡ 115 → ⊥) → (a ≡ 35 → ⊥) → (a ≡ 37 → ⊥) → eqb a 96 ≡ early-pair a b
 backtick a b p q r = simp (ne-eqb a 115 p, ne-eqb a 35 q, ne-eqb a 37 r)
 
--- src/lib.rt:142:9
 returns : tie.Need-returns
 returns c = simp (eq-eqb _ _ (c .if1 .taken))
 
--- src/lib.rt:145:9
-is-ascii-small-requires : tie.Need-is-ascii-small-requires
-is-ascii-small-requires c κs = search needs
+between-requires : tie.Need-between-requires
+between-requires c κs = search needs
 
--- src/lib.rt:145:9
 returns-2 : tie.Need-returns-2
-returns-2 c = c .is-ascii-small .ensures ∙ simp (ne-eqb _ _ (c .before .before .if1 .left), eq-eqb _ _ (c .before .if2 .taken))
+returns-2 c = c .between .ensures ∙ simp (ne-eqb _ _ (c .before .before .if1 .left), eq-eqb _ _ (c .before .if2 .taken))
 
--- src/lib.rt:148:9
 returns-3 : tie.Need-returns-3
 returns-3 c = simp (ne-eqb _ _ (c .before .before .if1 .left), ne-eqb _ _ (c .before .if2 .left), eq-eqb _ _ (c .if3 .taken))
 
--- src/lib.rt:138:1
 returns-4 : tie.Need-returns-4
 returns-4 c = backtick _ (c .before .before .before .args .b) (c .before .before .if1 .left) (c .before .if2 .left) (c .if3 .left)
 
 pub early-begins-spec : {M : Type 1} → statement M
 early-begins-spec =
-    tie.close (tie.spec returns is-ascii-small-requires returns-2 returns-3 returns-4)
+    tie.close (tie.spec returns between-requires returns-2 returns-3 returns-4)

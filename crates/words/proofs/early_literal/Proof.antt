@@ -5,61 +5,43 @@ use native.Mathlib.Omega.{arith}
 use borrow.Author.Needs.{needs}
 use Rattle.words.proofs.early_literal.Statement.{statement}
 use Rattle.words.proofs.early_literal.Tie as tie
-use Rattle.words.proofs.early_literal.Reads as reads
-use Rattle.words.proofs.early_literal.Lts as lts
-use Rattle.words.proofs.early_begins.Reads as early-begins-reads
-use Rattle.words.proofs.longest_early.Reads as longest-early-reads
-use Rattle.words.proofs.nothing.Reads as nothing-reads
 
--- src/lib.rt:189:9
 nothing-requires : tie.Need-nothing-requires
 nothing-requires c κs = search needs
 
--- src/lib.rt:189:9
 returns : tie.Need-returns
 returns c = c .nothing .ensures ∙ sym (early-past _ _ (omega (arith, c .before .if1 .taken)))
 
--- src/lib.rt:191:22
 add-if2 : tie.Need-add-if2
 add-if2 c = search needs
 
--- src/lib.rt:192:9
 nothing-requires-2 : tie.Need-nothing-requires-2
 nothing-requires-2 c κs = search needs
 
--- src/lib.rt:192:9
 returns-2 : tie.Need-returns-2
 returns-2 c = c .nothing2 .ensures ∙ sym (early-past _ _ (c .before .if2 .taken))
 
--- src/lib.rt:194:21
 shared-slice-read-early-begins : tie.Need-shared-slice-read-early-begins
 shared-slice-read-early-begins c = search needs
 
--- src/lib.rt:194:35
 add-early-begins : tie.Need-add-early-begins
 add-early-begins c = search needs
 
--- src/lib.rt:194:30
 shared-slice-read-early-begins-2 : tie.Need-shared-slice-read-early-begins-2
 shared-slice-read-early-begins-2 c = search needs
 
--- src/lib.rt:194:8
 early-begins-requires : tie.Need-early-begins-requires
 early-begins-requires c κs = search needs
 
--- src/lib.rt:195:9
 longest-early-requires : tie.Need-longest-early-requires
 longest-early-requires c κs = search needs
 
--- src/lib.rt:195:9
 returns-3 : tie.Need-returns-3
 returns-3 c = search needs
 
--- src/lib.rt:197:5
 nothing-requires-3 : tie.Need-nothing-requires-3
 nothing-requires-3 c κs = search needs
 
--- src/lib.rt:185:1
 returns-4 : tie.Need-returns-4
 returns-4 c = c .nothing3 .ensures ∙ sym (early-none _ _ (c .before .before .before .before .before .before .if1 .left) (sym (c .before .before .early-begins .ensures) ∙ c .before .if3 .left))
 

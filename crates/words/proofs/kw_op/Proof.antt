@@ -1,24 +1,60 @@
--- `kw_op` is what trying every keyword operator gives: no word begins another, so the first that fits is the only one. It stands in the
--- text, so the sum fits.
+-- `kw_op` is what trying every keyword operator gives: none is there where two bytes of the text begin none, and no word begins another, so
+-- the first that fits is the only one. It stands in the text, so the sum fits.
 use mathlib.Core.Path.{sym, _∙_}
+use borrow.Author.Tests.{not-true}
 use Rattle.definition.specs.Utf8.{encode, encode-all}
 use Rattle.definition.specs.Tables.{cps, kw-op-rules}
 use Rattle.words.proofs.TableLaws.{row-length, row-short}
 use Rattle.words.proofs.Computed.{kw-ops, kw-short}
-use Rattle.words.proofs.Searches.{kw-none, kw-inside, kw-no, kw-yes}
+use Rattle.words.proofs.Searches.{kw-past, kw-begins-none, kw-none, kw-no, kw-yes}
 use borrow.Author.Needs.{needs}
 use native.Mathlib.Omega.{arith}
 use Rattle.words.proofs.kw_op.Statement.{statement}
 use Rattle.words.proofs.kw_op.Tie as tie
 
-kw-op-word-requires : tie.Need-kw-op-word-requires
-kw-op-word-requires c κs = search needs
-
 nothing-requires : tie.Need-nothing-requires
 nothing-requires c κs = search needs
 
 returns : tie.Need-returns
-returns c = c .nothing .ensures ∙ sym (kw-none _ _ (c .before .before .kw-op-word .ensures) (c .before .if1 .taken))
+returns c = c .nothing .ensures ∙ sym (kw-past _ _ (omega (arith, c .before .if1 .taken)))
+
+add-if2 : tie.Need-add-if2
+add-if2 c = search needs
+
+nothing-requires-2 : tie.Need-nothing-requires-2
+nothing-requires-2 c κs = search needs
+
+returns-2 : tie.Need-returns-2
+returns-2 c = c .nothing2 .ensures ∙ sym (kw-past _ _ (c .before .if2 .taken))
+
+shared-slice-read-kw-op-begins : tie.Need-shared-slice-read-kw-op-begins
+shared-slice-read-kw-op-begins c = search needs
+
+add-kw-op-begins : tie.Need-add-kw-op-begins
+add-kw-op-begins c = search needs
+
+shared-slice-read-kw-op-begins-2 : tie.Need-shared-slice-read-kw-op-begins-2
+shared-slice-read-kw-op-begins-2 c = search needs
+
+kw-op-begins-requires : tie.Need-kw-op-begins-requires
+kw-op-begins-requires c κs = search needs
+
+nothing-requires-3 : tie.Need-nothing-requires-3
+nothing-requires-3 c κs = search needs
+
+returns-3 : tie.Need-returns-3
+returns-3 c =
+    let p = c .before .before in
+    c .nothing3 .ensures ∙ sym (kw-begins-none _ _ (p .before .before .before .before .if1 .left) (sym (p .kw-op-begins .ensures) ∙ not-true _ (c .before .if3 .taken)))
+
+kw-op-word-requires : tie.Need-kw-op-word-requires
+kw-op-word-requires c κs = search needs
+
+nothing-requires-4 : tie.Need-nothing-requires-4
+nothing-requires-4 c κs = search needs
+
+returns-4 : tie.Need-returns-4
+returns-4 c = c .nothing4 .ensures ∙ sym (kw-none _ _ (c .before .before .kw-op-word .ensures) (c .before .if4 .taken))
 
 mul-plus-op-char : tie.Need-mul-plus-op-char
 mul-plus-op-char c = search needs
@@ -29,8 +65,8 @@ array-read-plus-op-char c = search needs
 add-plus-op-char : tie.Need-add-plus-op-char
 unfolding kw-op-rules cps encode-all encode
 add-plus-op-char c =
-    let inside = kw-inside _ _ (c .before .kw-op-word .ensures) (c .if1 .left) in
-    omega (arith, inside, row-length kw-ops (c .before .kw-op-word .result), row-short 6 kw-ops kw-short (c .before .kw-op-word .result))
+    let k = c .before .kw-op-word .result in
+    omega (arith, row-length kw-ops k, row-short 6 kw-ops kw-short k)
 
 plus-op-char-requires : tie.Need-plus-op-char-requires
 plus-op-char-requires c κs = search needs
@@ -41,36 +77,47 @@ enum-known-end c = search needs
 enum-told : tie.Need-enum-told
 enum-told c = search needs
 
-nothing-requires-2 : tie.Need-nothing-requires-2
-nothing-requires-2 c κs = search needs
+nothing-requires-5 : tie.Need-nothing-requires-5
+nothing-requires-5 c κs = search needs
 
-returns-2 : tie.Need-returns-2
+returns-5 : tie.Need-returns-5
 unfolding kw-op-rules cps encode-all encode
-returns-2 c =
+returns-5 c =
     let p = c .before .before .before in
     let k = p .before .before .kw-op-word in
-    c .nothing2 .ensures ∙ sym (kw-no _ _ (k .ensures) (p .before .if1 .left) (row-length kw-ops (k .result)) (sym (p .plus-op-char .ensures) ∙ c .before .enum-told .given .1))
+    c .nothing5 .ensures ∙ sym (kw-no _ _ (k .ensures) (p .before .if4 .left) (row-length kw-ops (k .result)) (sym (p .plus-op-char .ensures) ∙ c .before .enum-told .given .1))
 
-returns-3 : tie.Need-returns-3
+returns-6 : tie.Need-returns-6
 unfolding kw-op-rules cps encode-all encode
-returns-3 c =
+returns-6 c =
     let p = c .before .before .before in
     let k = p .before .before .kw-op-word in
-    sym (kw-yes _ _ (k .ensures) (p .before .if1 .left) (row-length kw-ops (k .result)) (sym (p .plus-op-char .ensures) ∙ c .before .end .given .1))
+    sym (kw-yes _ _ (k .ensures) (p .before .if4 .left) (row-length kw-ops (k .result)) (sym (p .plus-op-char .ensures) ∙ c .before .end .given .1))
 
 pub kw-op-spec : {M : Type 1} → statement M
 kw-op-spec =
     tie.close
     (tie.spec
-    kw-op-word-requires
     nothing-requires
     returns
+    add-if2
+    nothing-requires-2
+    returns-2
+    shared-slice-read-kw-op-begins
+    add-kw-op-begins
+    shared-slice-read-kw-op-begins-2
+    kw-op-begins-requires
+    nothing-requires-3
+    returns-3
+    kw-op-word-requires
+    nothing-requires-4
+    returns-4
     mul-plus-op-char
     array-read-plus-op-char
     add-plus-op-char
     plus-op-char-requires
     enum-known-end
     enum-told
-    nothing-requires-2
-    returns-2
-    returns-3)
+    nothing-requires-5
+    returns-5
+    returns-6)
