@@ -6,10 +6,10 @@
 use chars::is_anywhite;
 use definition::Match;
 use definition::Sequence;
+use peeks::beyond_ascii_at;
 use scan::some_run;
 use text::sequence_at;
 ghost use mathlib.Core.Path.{_≡_};
-ghost use lib.Dec.{leb};
 ghost use Rattle.definition.specs.ClassFile.{class-check};
 ghost use Rattle.definition.specs.Text.{byte-has, star};
 ghost use Rattle.definition.specs.Chars.{is-anywhite};
@@ -76,15 +76,6 @@ pub fn blank_at(text: &[u8], i: usize) -> bool
         return false;
     }
     is_blank(text[i])
-}
-
-fn beyond_ascii_at(text: &[u8], i: usize) -> bool
-    ensures { λ r. ⌜ r ≡ byte-has (λ b. leb 0x80 b) (now (text .entry)) i ⌝ }
-{
-    if text.len() <= i {
-        return false;
-    }
-    0x80 <= text[i]
 }
 
 // The end of the run of white space from i on. Nearly all of it is blanks; only what begins beyond ASCII is decoded.

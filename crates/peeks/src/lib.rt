@@ -6,7 +6,7 @@ use definition::Match;
 ghost use mathlib.Core.Path.{_≡_};
 ghost use mathlib.Core.Bool.{_&&_, _||_};
 ghost use Prim.Native.Nat.{_+_, _≤_};
-ghost use lib.Dec.{eqb};
+ghost use lib.Dec.{eqb, leb};
 ghost use lib.ListN.{length};
 ghost use Rattle.definition.specs.Text.{byte-has, byte-is};
 ghost use Rattle.definition.specs.Matchers.{_then_, later, match-lit, no-comment};
@@ -19,6 +19,16 @@ pub fn byte_is(text: &[u8], i: usize, b: u8) -> bool
         return text[i] == b;
     }
     false
+}
+
+// A byte beyond ASCII stands at i.
+pub fn beyond_ascii_at(text: &[u8], i: usize) -> bool
+    ensures { λ r. ⌜ r ≡ byte-has (λ b. leb 0x80 b) (now (text .entry)) i ⌝ }
+{
+    if text.len() <= i {
+        return false;
+    }
+    0x80 <= text[i]
 }
 
 // One of two bytes stands at i.

@@ -9,10 +9,10 @@ use native.Mathlib.Omega.{arith}
 use mathlib.Core.Logic.{⊎-elim}
 use types.Run.{OneOf}
 use denote.Enum.Declared.{tagOf}
-use lib.Dec.{ltb, eqb}
+use lib.Dec.{ltb, leb, eqb}
 use lib.ListN.{length, getD, drop}
 use lib.Seq.{getD-drop}
-use borrow.Author.Tests.{lt-ltb}
+use borrow.Author.Tests.{lt-ltb, leb-false}
 use Rattle.definition.specs.Basics.{Bytes, ch, between}
 use Rattle.definition.specs.Utf8.{encode, sequence-at}
 use Rattle.definition.specs.Text.{with-char, byte-has, star}
@@ -23,13 +23,14 @@ use Rattle.definition.proofs.Sequence.{the-type}
 use Rattle.definition.specs.declared.Sequence.the-variants.{Char, Bad, End}
 use Rattle.definition.specs.declared.Match.{Match}
 use Rattle.definition.specs.declared.Match.the-variants.{To, Nothing}
-use Rattle.lemmas.proofs.Cases.{tests, by-outcome, by-lt}
+use Rattle.lemmas.proofs.Cases.{tests, by-outcome, by-lt, by-order}
 use Rattle.fixed_chars.specs.Parts.{ascii-ident-char}
 use Rattle.text.proofs.Reading.{read-end, No-char, with-none}
 use Rattle.text.proofs.Character.{char-read, char-within}
 use Rattle.text.proofs.Star.{star-on, star-stop, star-none, star-from}
 use Rattle.progress.proofs.Characters.{ascii-at}
-use Rattle.progress.proofs.Matches.{Small, small-is, small-or, small-between}
+use Rattle.progress.proofs.Matches.{Small, small-is, small-or, small-between, small-digit}
+use Rattle.progress.proofs.Walks.{byte-passes}
 use Rattle.peeks.proofs.ByteLaws.{has-within, has-inside}
 
 -- What is neither of the code's other two answers is no character.
@@ -142,7 +143,7 @@ small-binary = small-or (small-is (ch "0") (omega arith)) (small-is (ch "1") (om
 -- ---- runs of ASCII, byte by byte
 
 -- A character of ASCII is its own byte.
-ascii-byte : (s : Bytes) (i : ℕ) {c w : ℕ} → sequence-at s i ≡ Char c w → c < 0x80 → getD s i 0 ≡ c
+pub ascii-byte : (s : Bytes) (i : ℕ) {c w : ℕ} → sequence-at s i ≡ Char c w → c < 0x80 → getD s i 0 ≡ c
 unfolding encode
 ascii-byte s i {c} {w} e h =
     let one : encode c ≡ c ∷ [] = simp tests in
@@ -180,3 +181,31 @@ module _ (p : ℕ → Bool) (small : Small p) (s : Bytes) (i : ℕ) where
 pub ascii-ident : (f : Bytes) (c : ℕ) → c < 0x80 → is-ident-char f c ≡ ascii-ident-char c
 unfolding is-ident-char ascii-ident-char
 ascii-ident f c h = rw (is-ident-char, lt-ltb c ascii-limit h)
+
+-- Only characters of ASCII pass that part.
+pub small-ident : Small ascii-ident-char
+unfolding ascii-ident-char
+small-ident =
+    small-or (small-between (ch "a") (ch "z") (omega arith))
+    (small-or (small-between (ch "A") (ch "Z") (omega arith)) (small-or small-digit (small-or (small-is (ch "'") (omega arith)) (small-is (ch "_") (omega arith)))))
+
+-- ---- runs that pass ASCII by bytes
+
+-- Of ASCII, q passes what p does, and nothing else.
+module _ {p q : ℕ → Bool} (small : Small q) (agree : (c : ℕ) → c < 0x80 → p c ≡ q c) (s : Bytes) (j : ℕ) where
+  -- What passes q is passed over.
+  pub ascii-on : byte-has q s j ≡ true → star p s j ≡ star p s (j + 1)
+  ascii-on t =
+      let b = byte-passes q s j t in
+      let c = getD s j 0 in
+      run-on p s j (one-yes p s j (ascii-at s j (b .0) (small c (b .1))) (agree c (small c (b .1)) ∙ b .1))
+
+  -- At another character of ASCII, and at the text's end, the run ends.
+  pub ascii-stops : byte-has q s j ≡ false → byte-has (λ b. leb 0x80 b) s j ≡ false → star p s j ≡ j
+  ascii-stops t u =
+      by-order j (length s)
+      (λ l.
+      let c = getD s j 0 in
+      let below = leb-false 0x80 c (sym (has-within (λ b. leb 0x80 b) s j l) ∙ u) in
+      run-stop p s j (one-no p s j (ascii-at s j l below) (agree c below ∙ sym (has-within q s j l) ∙ t)))
+      (λ l. run-stop p s j (one-end p s j l))

@@ -14,6 +14,7 @@ use definition::Sequence;
 use fixed_chars::is_ascii_ident_char;
 use fixed_chars::is_digit;
 use fixed_chars::is_hex;
+use peeks::beyond_ascii_at;
 use peeks::byte_either;
 use text::sequence_at;
 ghost use mathlib.Core.Path.{_≡_};
@@ -25,6 +26,7 @@ ghost use Rattle.definition.specs.Text.{byte-has, star};
 ghost use Rattle.definition.specs.Chars.{ascii-table, op-char-cps, symbolchar-cps, is-digit, is-hex, is-op-char, is-symbolchar, is-ident-char};
 ghost use Rattle.definition.specs.Matchers.{only, one, plus};
 ghost use Rattle.definition.specs.declared.Match.the-variants.{To};
+ghost use Rattle.fixed_chars.specs.Parts.{ascii-ident-char};
 
 // ---- tests that only ASCII passes: a run over one goes by bytes
 
@@ -165,7 +167,8 @@ pub fn one_ident_char(text: &[u8], file: &[u8], i: usize) -> Match
     Match::Nothing
 }
 
-pub fn star_ident_char(text: &[u8], file: &[u8], i: usize) -> usize
+// The end of the run of identifier characters from i on, each character decoded.
+fn ident_decoded(text: &[u8], file: &[u8], i: usize) -> usize
     requires { ⌜ class-check (now file) ≡ 0 ⌝ }
     ensures { λ r. ⌜ r ≡ star (is-ident-char (now (file .entry))) (now (text .entry)) i ⌝ }
 {
@@ -176,6 +179,31 @@ pub fn star_ident_char(text: &[u8], file: &[u8], i: usize) -> usize
         };
         j = k;
     }
+}
+
+fn ascii_ident_at(text: &[u8], i: usize) -> bool
+    ensures { λ r. ⌜ r ≡ byte-has ascii-ident-char (now (text .entry)) i ⌝ }
+{
+    if text.len() <= i {
+        return false;
+    }
+    is_ascii_ident_char(text[i] as u32)
+}
+
+// The end of the run of identifier characters from i on. Nearly all of them are ASCII, and are passed by bytes; only what
+// begins beyond ASCII is decoded.
+pub fn star_ident_char(text: &[u8], file: &[u8], i: usize) -> usize
+    requires { ⌜ class-check (now file) ≡ 0 ⌝ }
+    ensures { λ r. ⌜ r ≡ star (is-ident-char (now (file .entry))) (now (text .entry)) i ⌝ }
+{
+    let mut j = i;
+    while ascii_ident_at(text, j) {
+        j += 1;
+    }
+    if beyond_ascii_at(text, j) {
+        return ident_decoded(text, file, j);
+    }
+    j
 }
 
 // ---- runs of a character or more

@@ -1,15 +1,16 @@
 -- One of the ASCII characters of a list stands at an offset: what such a character passes, every character of the list does, and that is
 -- computed. Rests on the law of first characters.
-use Prim.Native.Nat.{ℕ, _+_, _<_}
+use Prim.Native.Nat.{ℕ, _+_, _≤_, _<_}
 use Prim.Native.String.{String}
 use mathlib.Core.Path.{_≡_, refl, ap, _∙_}
 use mathlib.Core.Bool.{Bool, true, false, not}
 use mathlib.Core.List.{List}
-use borrow.Author.Tests.{lt-ltb, not-true}
+use lib.ListN.{length, getD}
+use borrow.Author.Tests.{not-true}
 use native.Mathlib.Omega.{arith}
 use types.Run.{OneOf}
 use Rattle.definition.specs.Basics.{Bytes, codes, mem-cp}
-use Rattle.definition.specs.Utf8.{encode, sequence-at}
+use Rattle.definition.specs.Utf8.{sequence-at}
 use Rattle.definition.specs.Text.{with-char, char-has, star}
 use Rattle.definition.specs.Chars.{is-symbolchar, is-ident-start, is-constructor-start, is-ident-char}
 use Rattle.definition.specs.Matchers.{_then_, only, one, match-ident, match-constructor}
@@ -18,8 +19,11 @@ use Rattle.definition.specs.declared.Sequence.{Sequence}
 use Rattle.definition.specs.declared.Sequence.the-variants.{Char}
 use Rattle.definition.specs.declared.Match.{Match}
 use Rattle.definition.specs.declared.Match.the-variants.{To, Nothing}
+use Rattle.lemmas.proofs.Cases.{by-order}
 use Rattle.lemmas.proofs.Members.{all-in, mem-yes}
-use Rattle.text.proofs.Character.{char-read, char-within}
+use Rattle.text.proofs.Reading.{read-end, No-char}
+use Rattle.progress.proofs.Characters.{ascii-at}
+use Rattle.scan.proofs.RunLaws.{ascii-byte}
 use Rattle.longest.proofs.Starts.{all-pass, listed-passes}
 use Rattle.longest.proofs.Places.{has-read}
 use Rattle.groups.specs.Groups.{symbols-behind, name-behind}
@@ -80,10 +84,14 @@ module _ {chars : List ℕ} {s : Bytes} {i : ℕ} (h : Stands chars s i) where
 pub stands : {s : Bytes} {i c : ℕ} (keys chars : List ℕ) → all-in keys chars ≡ true → Ascii s i c → OneOf keys c → Stands chars s i
 stands {c = c} keys chars t h k = record { code = c; read = h .read; listed = mem-yes keys chars c t k }
 
--- A character below 128 is one byte, within the text.
-pub ascii-read : {s : Bytes} {i c w : ℕ} → sequence-at s i ≡ Char c w → c < 128 → Ascii s i c
-unfolding encode
-ascii-read {s} {i} {c} {w} q h =
-    let r = char-read q in
-    let z : w ≡ 1 = r .width ∙ rw (lt-ltb c 0x80 h) in
-    record { read = q ∙ ap (Char c) z; small = h; within = omega (arith, char-within r) }
+-- Past the text's end no character stands.
+pub no-char-past : (s : Bytes) (i : ℕ) → length s ≤ i → No-char (sequence-at s i)
+no-char-past s i h = rw (read-end s i h) tt
+
+-- A byte below 128 is a character by itself.
+pub ascii-stands : {s : Bytes} {i : ℕ} → i < length s → getD s i 0 < 128 → Ascii s i (getD s i 0)
+ascii-stands {s} {i} l h = record { read = ascii-at s i l h; small = h; within = l }
+
+-- A character that begins with another byte is beyond ASCII.
+pub beyond-stands : (s : Bytes) (i : ℕ) {c w : ℕ} → sequence-at s i ≡ Char c w → 128 ≤ getD s i 0 → 128 ≤ c
+beyond-stands s i {c} q h = by-order c 128 (λ l. let e = ascii-byte s i q l in absurd (omega (arith, e))) (λ l. l)

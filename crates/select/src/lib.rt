@@ -107,7 +107,7 @@ fn at_ascii(
     }
 }
 
-// What is chosen at i.
+// What is chosen at i. A byte of ASCII is a character by itself, any other is decoded.
 pub fn select(
     text: &[u8],
     file: &[u8],
@@ -118,11 +118,14 @@ pub fn select(
     requires { ⌜ Lent (now file) (now ops) (now symbols) ⌝ }
     ensures { λ r. ⌜ r ≡ select (now (text .entry)) (now (file .entry)) i ⌝ }
 {
+    if text.len() <= i {
+        return nothing(i);
+    }
+    if text[i] < 128 {
+        return at_ascii(text, file, ops, symbols, text[i], i);
+    }
     let Sequence::Char(c, width) = sequence_at(text, i) else {
         return nothing(i);
     };
-    if 128 <= c {
-        return at_beyond_ascii(text, file, ops, i, c, i + width);
-    }
-    at_ascii(text, file, ops, symbols, c as u8, i)
+    at_beyond_ascii(text, file, ops, i, c, i + width)
 }

@@ -3,90 +3,48 @@ use Prim.Native.Nat.{ℕ, _+_, _<_}
 use native.Mathlib.Omega.{arith}
 use mathlib.Core.Path.{_≡_, refl, sym, ap, subst, _∙_}
 use mathlib.Core.Bool.{Bool, true, false, _||_}
-use lib.Dec.{eqb, leb}
-use lib.ListN.{length, getD}
-use borrow.Author.Tests.{eqb-true, ne-eqb, leb-false, lt-leb}
+use lib.Dec.{eqb}
+use lib.ListN.{getD}
+use borrow.Author.Tests.{eqb-true}
 use Rattle.definition.specs.Basics.{Bytes}
 use Rattle.definition.specs.Text.{byte-has, star}
-use Rattle.definition.specs.Chars.{ascii-limit, is-anywhite}
-use Rattle.definition.specs.ClassFile.{is-zs}
+use Rattle.definition.specs.Chars.{is-anywhite}
 use Rattle.definition.specs.Matchers.{_then_, plus, match-newline}
 use Rattle.definition.specs.Select.{found, select}
 use Rattle.definition.specs.Token.{rules, act}
 use Rattle.definition.specs.declared.Match.{Match}
 use Rattle.definition.specs.declared.Match.the-variants.{To}
-use Rattle.lemmas.proofs.Cases.{by-order, either}
+use Rattle.lemmas.proofs.Cases.{either}
 use Rattle.progress.proofs.Characters.{ascii-at}
 use Rattle.progress.proofs.Walks.{byte-passes}
 use Rattle.progress.proofs.Choices.{Fits, select-fits}
 use Rattle.longest.proofs.Places.{white-fast, line-fast, has-read}
-use Rattle.peeks.proofs.ByteLaws.{has-within}
-use Rattle.scan.proofs.RunLaws.{one-yes, one-no, one-end, run-on, run-stop}
+use Rattle.scan.proofs.RunLaws.{one-yes}
+use Rattle.blanks.specs.Blanks.{is-blank}
+use Rattle.blanks.proofs.WhiteLaws.{small-blank, ascii-white}
 use Rattle.select.proofs.First.{white-path, line-path}
 use Rattle.described.specs.Places.{moved, next-line}
 use Rattle.described.specs.declared.Place.{Place}
 use Rattle.described.specs.declared.Turned.the-variants.{Again}
 use Rattle.rulings.specs.Rulings.{Chose}
 use Rattle.rules.proofs.RuleLaws.{moved-turns, line-turns}
-use Rattle.steps.specs.White.{is-blank, Between, Passes}
+use Rattle.steps.specs.White.{Between, Passes}
 use Rattle.steps.specs.declared.white.Passed.the-variants.{On}
 use Rattle.steps.proofs.StepLaws.{turn-acts}
 
--- ---- blanks and line ends of ASCII
+-- ---- line ends of ASCII
 
 -- LF and CR, which begin a line end
 abbrev is-line-end : ℕ → Bool
 is-line-end c = eqb c 10 || eqb c 13
 
 -- both are characters of ASCII
-small-blank : (c : ℕ) → is-blank c ≡ true → c < 0x80
-small-blank c =
-    either (eqb c 32) (eqb c 9 || (eqb c 11 || eqb c 12)) (is 32 (omega arith))
-    (either (eqb c 9) (eqb c 11 || eqb c 12) (is 9 (omega arith)) (either (eqb c 11) (eqb c 12) (is 11 (omega arith)) (is 12 (omega arith))))
-  where
-    is : (k : ℕ) → k < 0x80 → eqb c k ≡ true → c < 0x80
-    is k h t = let e = eqb-true c k t in omega (arith, e)
-
 small-line-end : (c : ℕ) → is-line-end c ≡ true → c < 0x80
 small-line-end c = either (eqb c 10) (eqb c 13) (λ t. let e = eqb-true c 10 t in omega (arith, e)) (λ t. let e = eqb-true c 13 t in omega (arith, e))
 
 -- no line end is a blank
 line-no-blank : (c : ℕ) → is-line-end c ≡ true → is-blank c ≡ false
 line-no-blank c = either (eqb c 10) (eqb c 13) (λ t. ap is-blank (eqb-true c 10 t)) (λ t. ap is-blank (eqb-true c 13 t))
-
--- the white space of ASCII is its blanks
-ascii-white : (f : Bytes) (c : ℕ) → c < 0x80 → is-anywhite f c ≡ is-blank c
-unfolding is-anywhite
-ascii-white f c h =
-    go (eqb c 32) (eqb c 9) (eqb c 11) (eqb c 12) (eqb c 0xA0) (eqb c 0xFEFF) (leb ascii-limit c) (is-zs f c)
-    (ne-eqb c 0xA0 (λ e. omega (arith, e))) (ne-eqb c 0xFEFF (λ e. omega (arith, e))) (lt-leb ascii-limit c h)
-  where
-    go : (a b d e x y l z : Bool) → x ≡ false → y ≡ false → l ≡ false
-        → elim (a || (b || (d || (e || (x || y))))) [ true ↦ true | false ↦ elim l [ true ↦ z | false ↦ false ] ] ≡ a || (b || (d || e))
-    go true b d e x y l z p q r = refl
-    go false true d e x y l z p q r = refl
-    go false false true e x y l z p q r = refl
-    go false false false true x y l z p q r = refl
-    go false false false false x y l z p q r = rw (p, q, r)
-
--- ---- a run of white space
-
-module _ (f s : Bytes) (j : ℕ) where
-  -- a blank is passed over
-  pub white-on : byte-has is-blank s j ≡ true → star (is-anywhite f) s j ≡ star (is-anywhite f) s (j + 1)
-  white-on t =
-      let b = byte-passes is-blank s j t in
-      let small = small-blank (getD s j 0) (b .1) in
-      run-on (is-anywhite f) s j (one-yes (is-anywhite f) s j (ascii-at s j (b .0) small) (ascii-white f (getD s j 0) small ∙ b .1))
-
-  -- at another character of ASCII, and at the text's end, the run ends
-  pub white-stops : byte-has is-blank s j ≡ false → byte-has (λ b. leb 0x80 b) s j ≡ false → star (is-anywhite f) s j ≡ j
-  white-stops t u =
-      by-order j (length s)
-      (λ l.
-      let small = leb-false 0x80 (getD s j 0) (sym (has-within (λ b. leb 0x80 b) s j l) ∙ u) in
-      run-stop (is-anywhite f) s j (one-no (is-anywhite f) s j (ascii-at s j l small) (ascii-white f (getD s j 0) small ∙ sym (has-within is-blank s j l) ∙ t)))
-      (λ l. run-stop (is-anywhite f) s j (one-end (is-anywhite f) s j l))
 
 -- ---- what is chosen there
 

@@ -1,10 +1,8 @@
 -- White space and line ends that are passed before a turn is taken. s is the text, f the class file.
-use Prim.Native.Nat.{ℕ, _-_, _≤_}
+use Prim.Native.Nat.{_-_, _≤_}
 use mathlib.Core.Path.{_≡_}
-use mathlib.Core.Bool.{Bool, _||_}
-use lib.Dec.{eqb}
 use lib.ListN.{length}
-use Rattle.definition.specs.Basics.{Bytes, ch}
+use Rattle.definition.specs.Basics.{Bytes}
 use Rattle.definition.specs.ClassFile.{class-check}
 use Rattle.definition.specs.Token.{token-turn, next-token}
 use Rattle.definition.specs.declared.State.{State}
@@ -14,10 +12,6 @@ use Rattle.described.specs.declared.Place.{Place}
 use Rattle.described.specs.declared.Turned.the-variants.{Again}
 use Rattle.steps.specs.declared.white.Passed.{Passed}
 use Rattle.steps.specs.declared.white.Passed.the-variants.{On, Nothing}
-
--- the blanks of ASCII
-abbrev pub is-blank : ℕ → Bool
-is-blank c = eqb c (ch " ") || (eqb c (ch "\t") || (eqb c 11 || eqb c 12))
 
 -- a reader stands between comments, and the class file is accepted
 pub record Between (s f : Bytes) (at : Place) : Type 0 where

@@ -5,7 +5,8 @@ use lib.ListN.{length}
 use Rattle.definition.specs.Text.{star}
 use Rattle.definition.specs.Chars.{is-anywhite}
 use Rattle.peeks.proofs.ByteLaws.{has-inside}
-use Rattle.blanks.proofs.WhiteLaws.{white-on, white-stops}
+use Rattle.blanks.proofs.WhiteLaws.{small-blank, ascii-white}
+use Rattle.scan.proofs.RunLaws.{ascii-on, ascii-stops}
 use borrow.Author.Needs.{needs}
 use native.Mathlib.Omega.{arith}
 use Rattle.blanks.proofs.star_anywhite.Statement.{statement}
@@ -30,7 +31,7 @@ loop-less : tie.Need-loop-less Inv-loop μ-loop
 loop-less c = omega (arith, has-inside _ _ _ (sym (c .before .blank-at .ensures) ∙ c .if1 .taken))
 
 loop-again : tie.Need-loop-again Inv-loop μ-loop
-loop-again c = sym (white-on _ _ _ (sym (c .before .blank-at .ensures) ∙ c .if1 .taken)) ∙ c .before .before .loop .inv
+loop-again c = sym (ascii-on small-blank (ascii-white _) _ _ (sym (c .before .blank-at .ensures) ∙ c .if1 .taken)) ∙ c .before .before .loop .inv
 
 beyond-ascii-at-requires : tie.Need-beyond-ascii-at-requires Inv-loop μ-loop
 beyond-ascii-at-requires c κs = search needs
@@ -44,7 +45,7 @@ returns c = c .white-decoded .ensures ∙ c .before .before .before .before .bef
 returns-2 : tie.Need-returns-2 Inv-loop μ-loop
 returns-2 c =
     let d = c .before .before in
-    sym (white-stops _ _ _ (sym (d .before .blank-at .ensures) ∙ d .if1 .left) (sym (c .before .beyond-ascii-at .ensures) ∙ c .if2 .left)) ∙ d .before .before .loop .inv
+    sym (ascii-stops small-blank (ascii-white _) _ _ (sym (d .before .blank-at .ensures) ∙ d .if1 .left) (sym (c .before .beyond-ascii-at .ensures) ∙ c .if2 .left)) ∙ d .before .before .loop .inv
 
 pub star-anywhite-spec : {M : Type 1} → statement M
 star-anywhite-spec =

@@ -1,11 +1,11 @@
--- `star_ident_char` is the definition's `star` over its test. The invariant: the run from `j` ends where the run from i does. The measure is what is
--- left of the text.
+-- The invariant: the run from `j` ends where the run from i does. The measure is what is left of the text.
 use Prim.Native.Nat.{_-_}
 use mathlib.Core.Path.{_≡_, refl, sym, _∙_}
 use lib.ListN.{length}
-use Rattle.definition.specs.Chars.{is-ident-char}
 use Rattle.definition.specs.Text.{star}
-use Rattle.scan.proofs.RunLaws.{run-on, run-past, run-stop}
+use Rattle.definition.specs.Chars.{is-ident-char}
+use Rattle.peeks.proofs.ByteLaws.{has-inside}
+use Rattle.scan.proofs.RunLaws.{ascii-on, ascii-stops, small-ident, ascii-ident}
 use borrow.Author.Needs.{needs}
 use native.Mathlib.Omega.{arith}
 use Rattle.scan.proofs.star_ident_char.Statement.{statement}
@@ -20,29 +20,31 @@ abbrev μ-loop : tie.MeasureT-loop
 loop-holds : tie.Need-loop-holds Inv-loop μ-loop
 loop-holds c = refl
 
-one-ident-char-requires : tie.Need-one-ident-char-requires Inv-loop μ-loop
-one-ident-char-requires c κs = search needs
+ascii-ident-at-requires : tie.Need-ascii-ident-at-requires Inv-loop μ-loop
+ascii-ident-at-requires c κs = search needs
 
-enum-known-k : tie.Need-enum-known-k Inv-loop μ-loop
-enum-known-k c = search needs
-
-enum-told : tie.Need-enum-told Inv-loop μ-loop
-enum-told c = search needs
-
-returns : tie.Need-returns Inv-loop μ-loop
-returns c =
-    let d = c .before .before in
-    sym (run-stop _ _ _ (sym (d .one-ident-char .ensures) ∙ c .enum-told .given .1)) ∙ d .before .loop .inv
+add-j : tie.Need-add-j Inv-loop μ-loop
+add-j c = omega (arith, has-inside _ _ _ (sym (c .before .ascii-ident-at .ensures) ∙ c .if1 .taken))
 
 loop-less : tie.Need-loop-less Inv-loop μ-loop
-loop-less c =
-    let d = c .before .before .before in
-    omega (arith, run-past _ _ _ (sym (d .one-ident-char .ensures) ∙ c .before .k .given .1))
+loop-less c = omega (arith, has-inside _ _ _ (sym (c .before .ascii-ident-at .ensures) ∙ c .if1 .taken))
 
 loop-again : tie.Need-loop-again Inv-loop μ-loop
-loop-again c =
-    let d = c .before .before .before in
-    sym (run-on _ _ _ (sym (d .one-ident-char .ensures) ∙ c .before .k .given .1)) ∙ d .before .loop .inv
+loop-again c = sym (ascii-on small-ident (ascii-ident _) _ _ (sym (c .before .ascii-ident-at .ensures) ∙ c .if1 .taken)) ∙ c .before .before .loop .inv
+
+beyond-ascii-at-requires : tie.Need-beyond-ascii-at-requires Inv-loop μ-loop
+beyond-ascii-at-requires c κs = search needs
+
+ident-decoded-requires : tie.Need-ident-decoded-requires Inv-loop μ-loop
+ident-decoded-requires c κs = search needs
+
+returns : tie.Need-returns Inv-loop μ-loop
+returns c = c .ident-decoded .ensures ∙ c .before .before .before .before .before .loop .inv
+
+returns-2 : tie.Need-returns-2 Inv-loop μ-loop
+returns-2 c =
+    let d = c .before .before in
+    sym (ascii-stops small-ident (ascii-ident _) _ _ (sym (d .before .ascii-ident-at .ensures) ∙ d .if1 .left) (sym (c .before .beyond-ascii-at .ensures) ∙ c .if2 .left)) ∙ d .before .before .loop .inv
 
 pub star-ident-char-spec : {M : Type 1} → statement M
 star-ident-char-spec =
@@ -51,9 +53,11 @@ star-ident-char-spec =
     Inv-loop
     μ-loop
     loop-holds
-    one-ident-char-requires
-    enum-known-k
-    enum-told
-    returns
+    ascii-ident-at-requires
+    add-j
     loop-less
-    loop-again)
+    loop-again
+    beyond-ascii-at-requires
+    ident-decoded-requires
+    returns
+    returns-2)

@@ -13,21 +13,21 @@ cast-i c = search needs
 blank-at-requires : tie.Need-blank-at-requires
 blank-at-requires c κs = search needs
 
-add-white-end : tie.Need-add-white-end
-add-white-end c = search needs
+add-star-anywhite : tie.Need-add-star-anywhite
+add-star-anywhite c = search needs
 
-white-end-requires : tie.Need-white-end-requires
-white-end-requires c κs = search needs
+star-anywhite-requires : tie.Need-star-anywhite-requires
+star-anywhite-requires c κs = search needs
 
 moved-requires : tie.Need-moved-requires
 moved-requires c κs =
     let d = c .before in
-    end-fits (blank-chose (c .before .before .before .before .before .before .before .pre) (sym (d .before .blank-at .ensures) ∙ d .if1 .taken) (c .white-end .ensures))
+    end-fits (blank-chose (c .before .before .before .before .before .before .before .pre) (sym (d .before .blank-at .ensures) ∙ d .if1 .taken) (c .star-anywhite .ensures))
 
 returns : tie.Need-returns
 returns c =
     let d = c .before .before in
-    blank-passes (c .before .before .before .before .before .before .before .before .pre) (sym (d .before .blank-at .ensures) ∙ d .if1 .taken) (c .before .white-end .ensures) (c .moved .ensures)
+    blank-passes (c .before .before .before .before .before .before .before .before .pre) (sym (d .before .blank-at .ensures) ∙ d .if1 .taken) (c .before .star-anywhite .ensures) (c .moved .ensures)
 
 byte-either-requires : tie.Need-byte-either-requires
 byte-either-requires c κs = search needs
@@ -66,8 +66,8 @@ past-white-spec =
     (tie.spec
     cast-i
     blank-at-requires
-    add-white-end
-    white-end-requires
+    add-star-anywhite
+    star-anywhite-requires
     moved-requires
     returns
     byte-either-requires

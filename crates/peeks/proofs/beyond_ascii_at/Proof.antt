@@ -1,10 +1,10 @@
 -- Within the text the byte decides.
 use mathlib.Core.Path.{sym}
 use lib.Dec.{leb}
 use Rattle.peeks.proofs.ByteLaws.{has-within, has-past}
 use borrow.Author.Needs.{needs}
-use Rattle.steps.proofs.white.beyond_ascii_at.Statement.{statement}
-use Rattle.steps.proofs.white.beyond_ascii_at.Tie as tie
+use Rattle.peeks.proofs.beyond_ascii_at.Statement.{statement}
+use Rattle.peeks.proofs.beyond_ascii_at.Tie as tie
 
 returns : tie.Need-returns
 returns c = sym (has-past _ _ _ (c .if1 .taken))
