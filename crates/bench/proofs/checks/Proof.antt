@@ -8,7 +8,7 @@ use Rattle.bench.proofs.checks.Statement.{statement}
 use Rattle.bench.proofs.checks.Tie as tie
 use Rattle.bench.proofs.checks.Reads as reads
 use Rattle.bench.proofs.checks.Lts as lts
-use Rattle.bench.proofs.least.Reads as least-reads
+use Rattle.inputs.proofs.least.Reads as least-reads
 use Rattle.text.proofs.first_bad.Reads as first-bad-reads
 
 abbrev Inv-loop : tie.InvT-loop
