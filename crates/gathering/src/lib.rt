@@ -143,8 +143,27 @@ fn begun(case: Case, store: &mut [u8]) -> Case {
     Case::new(true, [0, name, classes, 0])
 }
 
-// The place of a word among those that stand at most once in a case; 0 for any other. There is one class file, however it is
-// given.
+// The place of a word among those that stand at most once in a case and say what should come of it, from 7 on; 0 for any
+// other.
+fn due_place(word: &[u8]) -> usize
+    ensures { λ r. ⌜ r < 11 ⌝ }
+{
+    if same(word, b"class-check") {
+        return 7;
+    }
+    if same(word, b"refused") {
+        return 8;
+    }
+    if same(word, b"stop") {
+        return 9;
+    }
+    if same(word, b"state") {
+        return 10;
+    }
+    0
+}
+
+// The same, with those that say what is given, from 1 on. There is one class file, however it is given.
 fn place_of(word: &[u8]) -> usize
     ensures { λ r. ⌜ r < 11 ⌝ }
 {
@@ -169,19 +188,7 @@ fn place_of(word: &[u8]) -> usize
     if same(word, b"buffers") {
         return 6;
     }
-    if same(word, b"class-check") {
-        return 7;
-    }
-    if same(word, b"refused") {
-        return 8;
-    }
-    if same(word, b"stop") {
-        return 9;
-    }
-    if same(word, b"state") {
-        return 10;
-    }
-    0
+    due_place(word)
 }
 
 // The case behind a word, which is noted; one that stands there again is a fault.
