@@ -5,8 +5,6 @@ use Rattle.lines.proofs.LineLaws.{shown-below, tail-size, Numbered, num
 use borrow.Author.Needs.{needs}
 use Rattle.lines.proofs.numbers_into.Statement.{statement}
 use Rattle.lines.proofs.numbers_into.Tie as tie
-use Rattle.lines.proofs.numbers_into.Reads as reads
-use Rattle.lines.proofs.numbers_into.Lts as lts
 
 abbrev Inv-loop : tie.InvT-loop
 Inv-loop words out₀ at₀ k₀ out at k = Numbered words out₀ at k out
