@@ -19,14 +19,12 @@ use case_lines::line_end;
 use case_lines::word_end;
 use comparing::compare::BYTES;
 use comparing::compare::blank_numbers;
-use comparing::compare::same_state;
 use comparing::compare::size_of_all;
 use comparing::report::Site;
 use comparing::report::differs;
 use comparing::report::same_count;
 use comparing::report::same_number;
 use comparing::report::second;
-use definition::State;
 use gathering::Case;
 use gathering::FINE;
 use gathering::SECOND;
@@ -40,10 +38,11 @@ use gathering::store::TEXT;
 use gathering::store::filled;
 use gathering::store::store_buffer;
 use gathering::take_line;
-use gathering::zeros;
 use inputs::read_opened;
 use libc::STDOUT_FILENO;
-use running::Run;
+use outcomes::check_start;
+use outcomes::first_state;
+use outcomes::whole;
 use running::run_once;
 use running::split;
 use std::num::wrapping_add_u64;
@@ -77,59 +76,6 @@ fn file_buffer() -> [u8; 524288]
     ensures { λ r. ⌜ 524288 ≡ length r ⌝ }
 {
     [0; 524288]
-}
-
-// The state that a start should give: nine zeros, or zeros but for the line and the line-start column.
-fn start_due(case: Case) -> State {
-    let mut st = zeros();
-    if case.start == 0 {
-        st.line = case.line;
-        st.column = case.column;
-    }
-    st
-}
-
-// The start of a case.
-fn check_start(site: Site, case: Case) -> u64 {
-    let answer = state::start(case.line, case.column);
-    let found = answer.state;
-    let due = start_due(case);
-    let n = same_number(site, b"start's refusal", answer.refusal, case.start);
-    wrapping_add_u64(n, same_state(site, found, due))
-}
-
-// The state that the run of a case begins with.
-fn first_state(case: Case) -> State {
-    if case.saved {
-        return case.st;
-    }
-    start_due(case)
-}
-
-// The state that the run of a case hands back: the case's own, and where it says none, the state given if no item comes.
-fn last_state(case: Case, st: State) -> State {
-    if case.known {
-        return case.after;
-    }
-    st
-}
-
-// The run of a case with large buffers, or with those that it names.
-fn whole(case: Case, st: State, want: usize) -> Run {
-    let after = last_state(case, st);
-    Run {
-        st: st,
-        numbers: case.numbers,
-        bytes: case.bytes,
-        refusal: case.refusal,
-        offset: case.offset,
-        stop: case.stop,
-        first: 0,
-        last: want,
-        from: 0,
-        known: case.known || want == 0,
-        after: after,
-    }
 }
 
 // All that a case says.
