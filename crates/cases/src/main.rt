@@ -14,9 +14,15 @@
 // Assumed: what `libc` and `os` declare of reading and writing.
 mod running; // running.rt: the runs of a case
 
+use case_files::Progress;
+use case_files::closed;
+use case_files::conclude;
+use case_files::file_buffer;
+use case_files::is_silent;
+use case_files::read_cases;
+use case_files::taken;
 use case_lines::line_after;
 use case_lines::line_end;
-use case_lines::word_end;
 use comparing::compare::BYTES;
 use comparing::compare::blank_numbers;
 use comparing::compare::size_of_all;
@@ -24,10 +30,7 @@ use comparing::report::Site;
 use comparing::report::differs;
 use comparing::report::same_count;
 use comparing::report::same_number;
-use comparing::report::second;
 use gathering::Case;
-use gathering::FINE;
-use gathering::SECOND;
 use gathering::store::CLASS_ROOM;
 use gathering::store::CLASSES;
 use gathering::store::NAME;
@@ -38,45 +41,16 @@ use gathering::store::TEXT;
 use gathering::store::filled;
 use gathering::store::store_buffer;
 use gathering::take_line;
-use inputs::read_opened;
-use libc::STDOUT_FILENO;
 use outcomes::check_start;
 use outcomes::first_state;
 use outcomes::whole;
 use running::run_once;
 use running::split;
 use std::num::wrapping_add_u64;
-ghost use mathlib.Core.Path.{_≡_};
 ghost use Prim.Native.Nat.{_≤_};
 ghost use lib.ListN.{length};
-ghost use Rattle.io.specs.Counts.{Counts};
 
 const FILES: u32 = 3;
-
-// How far a file is read: the case that is open, the number of the last line and of the line where the case began, how many
-// cases were run, and how many differences were found.
-struct Progress {
-    case: Case,
-    number: u64,
-    begun: u64,
-    cases: u64,
-    differences: u64,
-}
-
-impl Progress {
-    // So many differences more.
-    fn more(mut self, n: u64) -> Progress {
-        self.differences = wrapping_add_u64(self.differences, n);
-        self
-    }
-}
-
-// A file of cases.
-fn file_buffer() -> [u8; 524288]
-    ensures { λ r. ⌜ 524288 ≡ length r ⌝ }
-{
-    [0; 524288]
-}
 
 // All that a case says.
 fn check_runs(site: Site, store: &[u8], want: &[u32], case: Case) -> u64
@@ -136,53 +110,6 @@ fn check_case(site: Site, store: &[u8], want: &[u32], case: Case) -> u64
     check_runs(site, store, &want[..records], case)
 }
 
-// Whether a line says nothing: it is empty or a comment.
-fn is_silent(line: &[u8]) -> bool {
-    if line.len() == 0 {
-        return true;
-    }
-    line[0] == b'#'
-}
-
-// What is wrong with a line is a difference.
-fn check_fault(site: Site, line: &[u8], fault: u32) -> u64 {
-    if fault == FINE {
-        return 0;
-    }
-    if fault == SECOND {
-        let end = word_end(line);
-        return second(site, &line[..end]);
-    }
-    differs(site, b"the line can't be read")
-}
-
-// The progress behind a line that a case has taken.
-fn taken(file: u32, line: &[u8], before: Progress, case: Case) -> Progress {
-    let mut now = before;
-    let open = before.case;
-    if case.open != open.open {
-        now.begun = before.number;
-    }
-    let mut rest = case;
-    rest.fault = FINE;
-    now.case = rest;
-    let site = Site {
-        file: file,
-        line: before.number,
-        run: 0,
-    };
-    now.more(check_fault(site, line, case.fault))
-}
-
-// The progress behind a case that is over.
-fn closed(before: Progress, n: u64) -> Progress {
-    let mut now = before.more(n);
-    let none = Case::new(false, [0; 4]);
-    now.case = none;
-    now.cases = wrapping_add_u64(now.cases, 1);
-    now
-}
-
 // The progress behind one line more.
 fn next_line(
     file: u32,
@@ -233,22 +160,6 @@ fn check_all(
     now
 }
 
-// Opens a file of cases, in the order of `report::write_file`.
-fn open_cases(file: u32) -> i32 {
-    match file {
-        0 => os::open_read(b"document.cases"),
-        1 => os::open_read(b"short.cases"),
-        _ => os::open_read(b"long.cases"),
-    }
-}
-
-// Reads a file of cases and answers how many bytes it has; none where it can't be opened.
-fn read_cases(file: u32, lines: &mut [u8]) -> usize
-    ensures { λ r. ⌜ Counts r (now (lines .exit)) ⌝ }
-{
-    read_opened(open_cases(file), lines)
-}
-
 // The progress behind a file. Each file has cases, and room is left behind the longest.
 fn check_file(
     file: u32,
@@ -279,14 +190,6 @@ fn check_file(
         return closed(then, differs(site, b"the last case has no end"));
     }
     then
-}
-
-// The last line.
-fn conclude(now: Progress) {
-    io::print_decimal(STDOUT_FILENO, now.cases);
-    io::write_all(STDOUT_FILENO, b" cases, ");
-    io::print_decimal(STDOUT_FILENO, now.differences);
-    io::write_all(STDOUT_FILENO, b" differences\n");
 }
 
 // All files.

@@ -2,8 +2,8 @@
 use lib.ListN.{length-take}
 use native.Mathlib.Omega.{arith}
 use borrow.Author.Needs.{needs}
-use Rattle.cases.proofs.check_fault.Statement.{statement}
-use Rattle.cases.proofs.check_fault.Tie as tie
+use Rattle.case_files.proofs.check_fault.Statement.{statement}
+use Rattle.case_files.proofs.check_fault.Tie as tie
 
 returns : tie.Need-returns
 returns c = search needs
