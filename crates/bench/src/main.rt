@@ -5,24 +5,19 @@
 // Proved: it ends and breaks nothing, and what it runs is `lexer::run`.
 // Assumed: what `libc` and `os` declare of reading and writing.
 use definition::State;
+use inputs::class_buffer;
+use inputs::least;
+use inputs::read_classes;
+use inputs::text_buffer;
 use libc::STDIN_FILENO;
 use libc::STDOUT_FILENO;
 ghost use mathlib.Core.Path.{_≡_};
-ghost use Prim.Native.Nat.{_≤_};
 ghost use lib.ListN.{length};
-ghost use Rattle.io.specs.Counts.{Counts};
 
 // What a whole run gave: the items, or the refusal's number.
 struct Whole {
     refusal: u32,
     items: u64,
-}
-
-// One byte more than a run takes, so that a longer text is refused and not cut.
-fn text_buffer() -> [u8; 1048577]
-    ensures { λ r. ⌜ 1048577 ≡ length r ⌝ }
-{
-    [0; 1048577]
 }
 
 // The records of 65,536 items.
@@ -37,13 +32,6 @@ fn payload_buffer() -> [u8; 1052672]
     ensures { λ r. ⌜ 1052672 ≡ length r ⌝ }
 {
     [0; 1052672]
-}
-
-// One byte more than a class file may have.
-fn class_buffer() -> [u8; 65537]
-    ensures { λ r. ⌜ 65537 ≡ length r ⌝ }
-{
-    [0; 65537]
 }
 
 // A run over the whole text. It runs on after a full buffer. Each run writes an item at least, since every payload fits
@@ -93,16 +81,6 @@ fn runs(
     last
 }
 
-// The lesser of two numbers.
-fn least(a: usize, b: usize) -> usize
-    ensures { λ r. ⌜ r ≤ a ⌝ }
-{
-    if b < a {
-        return b;
-    }
-    a
-}
-
 // The UTF-8 check as many times as asked for. Each takes as many bytes as the one before found legal (all of them, for a
 // legal text), so that none can be left out as the same as the one before.
 fn checks(rounds: usize, text: &[u8]) -> usize {
@@ -139,19 +117,6 @@ fn rounds() -> usize {
     }
     let length = os::arg(1, &mut word);
     number(&word[..length])
-}
-
-// Reads classes.bin, one byte more than a class file may have, and answers how many bytes came.
-fn read_classes(file: &mut [u8]) -> usize
-    ensures { λ r. ⌜ Counts r (now (file .exit)) ⌝ }
-{
-    let fd = os::open_read(b"classes.bin");
-    if fd < 0 {
-        return 0;
-    }
-    let n = io::read_full(fd, file);
-    libc::close(fd);
-    n
 }
 
 // Writes a number and a line end.

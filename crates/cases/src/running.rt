@@ -1,83 +1,33 @@
 // The runs of a case: one over the whole text, and one split into pieces of a single item by buffers that just hold it.
 // Proved: each function is safe and ends. Assumed: what `libc` declares of `write`.
-use crate::compare::BYTES;
-use crate::compare::NUMBERS;
-use crate::compare::RECORD;
-use crate::compare::blank_bytes;
-use crate::compare::blank_numbers;
-use crate::compare::put_bytes;
-use crate::compare::put_records;
-use crate::compare::same_bytes;
-use crate::compare::same_numbers;
-use crate::compare::same_state;
-use crate::compare::size_at;
-use crate::report::Site;
-use crate::report::differs;
-use crate::report::same_count;
-use crate::report::same_number;
+use comparing::compare::BYTES;
+use comparing::compare::NUMBERS;
+use comparing::compare::RECORD;
+use comparing::compare::blank_bytes;
+use comparing::compare::blank_numbers;
+use comparing::compare::size_at;
+use comparing::report::Site;
+use comparing::report::same_number;
 use definition::RunAnswer;
 use definition::State;
+use gathering::store::CLASSES;
+use gathering::store::NAME;
+use gathering::store::TEXT;
+use gathering::store::filled;
+use inputs::least;
+use outcomes::Done;
+use outcomes::Run;
+use outcomes::same_answer;
+use outcomes::same_buffers;
+use outcomes::stop_behind;
+use outcomes::told_at_end;
 use std::num::wrapping_add_u64;
 use std::num::wrapping_add_usize;
 ghost use Prim.Native.Nat.{_≤_};
-
-// The kind of the token at the text's end.
-const EOF: u32 = 165;
-
-// A run, and what it should answer: the state that it begins with, the numbers and bytes that it is lent, the refusal with its
-// offset, the stop; the wanted items that it should write, as the first and last number of their records and the first byte
-// of their payloads; and, where `known`, the state that it should hand back.
-pub struct Run {
-    pub st: State,
-    pub numbers: usize,
-    pub bytes: usize,
-    pub refusal: u32,
-    pub offset: u32,
-    pub stop: u32,
-    pub first: usize,
-    pub last: usize,
-    pub from: usize,
-    pub known: bool,
-    pub after: State,
-}
-
-impl Run {
-    // A run that begins with a state, writes nothing and hands the state back.
-    pub fn idle(st: State, numbers: usize, bytes: usize, stop: u32) -> Run {
-        Run {
-            st: st,
-            numbers: numbers,
-            bytes: bytes,
-            refusal: 0,
-            offset: 0,
-            stop: stop,
-            first: 0,
-            last: 0,
-            from: 0,
-            known: true,
-            after: st,
-        }
-    }
-}
-
-// What came of a run: the state handed back, and how many lines were written.
-pub struct Done {
-    pub state: State,
-    pub differences: u64,
-}
-
-// The smaller of two.
-fn least(a: usize, b: usize) -> usize
-    ensures { λ r. ⌜ r ≤ b ⌝ }
-{
-    if a < b {
-        return a;
-    }
-    b
-}
+ghost use lib.ListN.{length};
 
 // The run itself, over buffers of which so much is lent as the run says.
-fn lend(
+fn lend_buffers(
     text: &[u8],
     name: &[u8],
     classes: &[u8],
@@ -98,68 +48,43 @@ fn lend(
     )
 }
 
-// How many items a run should write.
-fn items_due(run: Run) -> u64 {
-    if run.last < run.first {
-        return 0;
-    }
-    ((run.last - run.first) / RECORD) as u64
-}
-
-// A run's answer is what it should be.
-fn same_answer(site: Site, run: Run, answer: RunAnswer) -> u64 {
-    let found = answer.state;
-    let due = run.after;
-    let mut n = same_number(site, b"refusal", answer.refusal, run.refusal);
-    n = wrapping_add_u64(
-        n,
-        same_number(site, b"refusal's offset", answer.offset, run.offset),
-    );
-    n = wrapping_add_u64(n, same_number(site, b"stop", answer.stop, run.stop));
-    n = wrapping_add_u64(
-        n,
-        same_count(site, b"count of items", answer.count as u64, items_due(run)),
-    );
-    if run.known {
-        return wrapping_add_u64(n, same_state(site, found, due));
-    }
-    n
-}
-
-// Both buffers hold what a run should leave there.
-fn same_buffers(
-    site: Site,
-    want: &[u32],
-    bytes: &[u8],
+// The same, over what a case fills of the store.
+fn lend(
+    store: &[u8],
+    used: [usize; 4],
     run: Run,
-    records: &[u32; NUMBERS],
-    payload: &[u8; BYTES],
-) -> u64 {
-    let mut due_records = blank_numbers();
-    let mut due_payload = blank_bytes();
-    let size = put_records(want, run.first, run.last, &mut due_records);
-    if !put_bytes(bytes, run.from, size as usize, &mut due_payload) {
-        return differs(site, b"the case has too few payload bytes");
-    }
-    let n = same_numbers(site, records, &due_records);
-    wrapping_add_u64(n, same_bytes(site, payload, &due_payload))
+    records: &mut [u32],
+    payload: &mut [u8],
+) -> RunAnswer
+    requires { ⌜ 1126403 ≤ length (now store) ⌝ }
+{
+    let text = filled(TEXT, used[TEXT]);
+    let text_end = text.end;
+    let name = filled(NAME, used[NAME]);
+    let name_first = name.first;
+    let name_end = name.end;
+    let file = filled(CLASSES, used[CLASSES]);
+    let file_first = file.first;
+    let file_end = file.end;
+    lend_buffers(
+        &store[..text_end],
+        &store[name_first..name_end],
+        &store[file_first..file_end],
+        run,
+        records,
+        payload,
+    )
 }
 
 // A run, compared with what it should do.
-pub fn run_once(
-    site: Site,
-    text: &[u8],
-    name: &[u8],
-    classes: &[u8],
-    want: &[u32],
-    bytes: &[u8],
-    run: Run,
-) -> Done {
+pub fn run_once(site: Site, store: &[u8], used: [usize; 4], want: &[u32], run: Run) -> Done
+    requires { ⌜ 1126403 ≤ length (now store) ⌝ }
+{
     let mut records = blank_numbers();
     let mut payload = blank_bytes();
-    let answer = lend(text, name, classes, run, &mut records, &mut payload);
+    let answer = lend(store, used, run, &mut records, &mut payload);
     let n = same_answer(site, run, answer);
-    let m = same_buffers(site, want, bytes, run, &records, &payload);
+    let m = same_buffers(site, store, used, want, run, &records, &payload);
     let state = answer.state;
     Done {
         state: state,
@@ -169,50 +94,28 @@ pub fn run_once(
 
 // From a state whose next item has so many bytes: with a number too few nothing is written and the stop is 1, though no byte
 // is lent either; with a byte too few it is 2.
-fn no_room(
-    site: Site,
-    text: &[u8],
-    name: &[u8],
-    classes: &[u8],
-    want: &[u32],
-    bytes: &[u8],
-    st: State,
-    size: usize,
-) -> u64 {
+fn no_room(site: Site, store: &[u8], used: [usize; 4], want: &[u32], st: State, size: usize) -> u64
+    requires { ⌜ 1126403 ≤ length (now store) ⌝ }
+{
     let short = Run::idle(st, RECORD - 1, 0, 1);
-    let done = run_once(site, text, name, classes, want, bytes, short);
+    let done = run_once(site, store, used, want, short);
     if size == 0 {
         return done.differences;
     }
     let tight = Run::idle(st, RECORD, size - 1, 2);
-    let again = run_once(site, text, name, classes, want, bytes, tight);
+    let again = run_once(site, store, used, want, tight);
     wrapping_add_u64(done.differences, again.differences)
 }
 
-// The stop of a run whose records are full behind number `last` of the wanted ones.
-fn stop_behind(last: usize, all: usize) -> u32 {
-    if last == all {
-        return 0;
-    }
-    1
-}
-
 // One item, with buffers that just hold it; and a run from the beginning up to that item hands back the same state.
-fn piece(
-    site: Site,
-    text: &[u8],
-    name: &[u8],
-    classes: &[u8],
-    want: &[u32],
-    bytes: &[u8],
-    begin: State,
-    run: Run,
-) -> Done {
+fn piece(site: Site, store: &[u8], used: [usize; 4], want: &[u32], begin: State, run: Run) -> Done
+    requires { ⌜ 1126403 ≤ length (now store) ⌝ }
+{
     let st = run.st;
     let size = run.bytes;
     let last = run.last;
-    let n = no_room(site, text, name, classes, want, bytes, st, size);
-    let done = run_once(site, text, name, classes, want, bytes, run);
+    let n = no_room(site, store, used, want, st, size);
+    let done = run_once(site, store, used, want, run);
     let state = done.state;
     let up_to = Run {
         st: begin,
@@ -227,7 +130,7 @@ fn piece(
         known: true,
         after: state,
     };
-    let again = run_once(site, text, name, classes, want, bytes, up_to);
+    let again = run_once(site, store, used, want, up_to);
     let m = wrapping_add_u64(done.differences, again.differences);
     Done {
         state: state,
@@ -236,15 +139,9 @@ fn piece(
 }
 
 // The wanted items one by one, each from the state that the one before handed back.
-fn pieces(
-    site: Site,
-    text: &[u8],
-    name: &[u8],
-    classes: &[u8],
-    want: &[u32],
-    bytes: &[u8],
-    begin: State,
-) -> Done {
+fn pieces(site: Site, store: &[u8], used: [usize; 4], want: &[u32], begin: State) -> Done
+    requires { ⌜ 1126403 ≤ length (now store) ⌝ }
+{
     let mut st = begin;
     let mut n = 0;
     let mut first = 0;
@@ -261,7 +158,7 @@ fn pieces(
         run.from = from;
         run.known = false;
         let at = site.at_run((last / RECORD) as u64);
-        let done = piece(at, text, name, classes, want, bytes, begin, run);
+        let done = piece(at, store, used, want, begin, run);
         st = done.state;
         n = wrapping_add_u64(n, done.differences);
         from = wrapping_add_usize(from, size);
@@ -273,52 +170,18 @@ fn pieces(
     }
 }
 
-// What the last wanted item says of the state behind it. EOF and ERROR come last: the state is in their line, with their
-// comments and in no comment, and behind EOF at the text's end.
-fn told_at_end(site: Site, text: &[u8], want: &[u32], st: State) -> u64 {
-    if want.len() < RECORD {
-        return 0;
-    }
-    let last = want.len() - RECORD;
-    let comment = st.comment;
-    let mut n = same_number(site, b"line at the end", st.line, want[last + 4]);
-    n = wrapping_add_u64(
-        n,
-        same_number(site, b"comments at the end", st.comments, want[last + 8]),
-    );
-    n = wrapping_add_u64(n, same_number(site, b"depth at the end", st.depth, 0));
-    n = wrapping_add_u64(n, same_number(site, b"comment's line", comment.line, 0));
-    n = wrapping_add_u64(n, same_number(site, b"comment's column", comment.col, 0));
-    if want[last + 1] != EOF {
-        return n;
-    }
-    let end = same_count(
-        site,
-        b"offset at the end",
-        st.offset as u64,
-        text.len() as u64,
-    );
-    wrapping_add_u64(n, end)
-}
-
 // The split run: the wanted items one by one, and then none, in mode 2, with room and without.
-pub fn split(
-    site: Site,
-    text: &[u8],
-    name: &[u8],
-    classes: &[u8],
-    want: &[u32],
-    bytes: &[u8],
-    begin: State,
-) -> u64 {
-    let done = pieces(site, text, name, classes, want, bytes, begin);
+pub fn split(site: Site, store: &[u8], used: [usize; 4], want: &[u32], begin: State) -> u64
+    requires { ⌜ 1126403 ≤ length (now store) ⌝ }
+{
+    let done = pieces(site, store, used, want, begin);
     let st = done.state;
     let ended = same_number(site, b"mode at the end", st.mode, 2);
-    let told = told_at_end(site, text, want, st);
+    let told = told_at_end(site, used[TEXT], want, st);
     let n = wrapping_add_u64(done.differences, wrapping_add_u64(ended, told));
     let roomy = Run::idle(st, NUMBERS, BYTES, 0);
-    let one = run_once(site, text, name, classes, want, bytes, roomy);
+    let one = run_once(site, store, used, want, roomy);
     let none = Run::idle(st, 0, 0, 0);
-    let two = run_once(site, text, name, classes, want, bytes, none);
+    let two = run_once(site, store, used, want, none);
     wrapping_add_u64(n, wrapping_add_u64(one.differences, two.differences))
 }

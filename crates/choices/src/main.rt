@@ -7,9 +7,10 @@
 // Assumed: what `libc` and `os` declare of reading and writing.
 use definition::Choice;
 use definition::Sequence;
+use inputs::class_buffer;
+use inputs::read_classes;
 use libc::STDIN_FILENO;
 use libc::STDOUT_FILENO;
-ghost use Rattle.io.specs.Counts.{Counts};
 ghost use Rattle.select.specs.Standing.{Lent};
 
 const TEXT_LIMIT: usize = 60000;
@@ -68,22 +69,9 @@ fn choices(text: &[u8], file: &[u8]) {
     );
 }
 
-// Reads classes.bin, one byte more than a class file may have, and answers how many bytes came.
-fn read_classes(file: &mut [u8]) -> usize
-    ensures { λ r. ⌜ Counts r (now (file .exit)) ⌝ }
-{
-    let fd = os::open_read(b"classes.bin");
-    if fd < 0 {
-        return 0;
-    }
-    let n = io::read_full(fd, file);
-    libc::close(fd);
-    n
-}
-
 fn main() {
     let mut text = io::large_buffer();
-    let mut file = [0u8; 65537];
+    let mut file = class_buffer();
     let length = io::read_full(STDIN_FILENO, &mut text);
     let size = read_classes(&mut file);
     choices(&text[..length], &file[..size]);

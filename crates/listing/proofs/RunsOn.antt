@@ -21,8 +21,8 @@ use Rattle.runs.specs.Items.{steps-of, Steps}
 use Rattle.runs.specs.Written.{payloads-of, Stops}
 use Rattle.runs.proofs.Items.{step-left, steps-of-end, steps-then}
 use Rattle.runs.proofs.Laws.{run-refused, run-done, handed-back-taken}
-use Rattle.listing.specs.Line.{lines}
-use Rattle.listing.specs.Writing.{Room}
+use Rattle.lines.specs.Line.{lines}
+use Rattle.lines.specs.Writing.{Room}
 use Rattle.listing.specs.Rounds.{Begun, Lent, Refuses, Lists, Ends}
 use Rattle.listing.specs.declared.Ending.the-variants.{Refusal, All}
 use Rattle.listing.proofs.PayloadSize.{longest-payload, payload-short}

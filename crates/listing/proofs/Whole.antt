@@ -17,7 +17,7 @@ use Rattle.runs.specs.Written.{records-of}
 use Rattle.runs.proofs.Items.{steps-of-end, steps-then}
 use Rattle.runs.proofs.Buffers.{words-size}
 use Rattle.runs.proofs.Laws.{run-done}
-use Rattle.listing.specs.Line.{line, lines}
+use Rattle.lines.specs.Line.{line, lines}
 use Rattle.listing.specs.Rounds.{lines-of, listing}
 
 -- a line doesn't show word 6

@@ -1,4 +1,2 @@
--- `Line` is what the listing shows of an item, `Writing` and `Rounds` what its functions promise and ask for.
-pub mod Line
-pub mod Writing
+-- What the listing's functions promise and ask for.
 pub mod Rounds

@@ -10,7 +10,7 @@ use Rattle.definition.specs.Run.{Outcome, refusal}
 use Rattle.definition.specs.declared.State.{State}
 use Rattle.lemmas.specs.Over.{Wrote}
 use Rattle.runs.specs.Items.{steps-of}
-use Rattle.listing.specs.Line.{line, lines}
+use Rattle.lines.specs.Line.{line, lines}
 use Rattle.listing.specs.declared.Ending.{Ending}
 use Rattle.listing.specs.declared.Ending.the-variants.{Refusal, All}
 use Rattle.listing.specs.declared.Round.{Round}

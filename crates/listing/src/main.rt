@@ -7,19 +7,17 @@
 // the count of all items, and REFUSED comes only where the first run is refused. What it writes for document 01's text is
 // compared with the file stdout. Assumed: what `libc` and `os` declare of reading and writing; a read that fails counts as
 // the end of what is read. No contract says what `main` hands over to be written.
-mod kind_names;
-mod line;
-
 use definition::State;
+use inputs::class_buffer;
+use inputs::read_classes;
 use lexer::run;
 use libc::STDIN_FILENO;
 use libc::STDOUT_FILENO;
-use line::lines_into;
+use lines::lines_into;
 use state::start;
 ghost use mathlib.Core.Path.{_≡_};
 ghost use lib.Dec.{ltb};
 ghost use lib.ListN.{length};
-ghost use Rattle.io.specs.Counts.{Counts};
 ghost use Rattle.definition.specs.Tables.{cps};
 ghost use Rattle.definition.specs.Run.{run};
 ghost use Rattle.listing.specs.Rounds.{Lent, Begun, Rounded, Ends};
@@ -162,22 +160,9 @@ fn list(text: &[u8], classes: &[u8]) {
     say_ending(list_from(text, classes, st, &mut records, &mut payload, &mut out));
 }
 
-// Reads classes.bin, one byte more than a class file may have, and answers how many bytes came.
-fn read_classes(file: &mut [u8]) -> usize
-    ensures { λ r. ⌜ Counts r (now (file .exit)) ⌝ }
-{
-    let fd = os::open_read(b"classes.bin");
-    if fd < 0 {
-        return 0;
-    }
-    let n = io::read_full(fd, file);
-    libc::close(fd);
-    n
-}
-
 fn main() {
     let mut text = io::large_buffer();
-    let mut file = [0u8; 65537];
+    let mut file = class_buffer();
     let length = io::read_full(STDIN_FILENO, &mut text);
     let size = read_classes(&mut file);
     list(&text[..length], &file[..size]);

@@ -1,19 +1,17 @@
 -- `check_all` is safe and ends. The buffers keep their lengths; the measure is what is left of the lines.
 use mathlib.Core.Path.{_≡_}
-use Prim.Native.Nat.{_-_}
+use Prim.Native.Nat.{_≤_, _-_}
 use lib.ListN.{length}
 use borrow.Author.Needs.{needs}
 use Rattle.cases.proofs.check_all.Statement.{statement}
 use Rattle.cases.proofs.check_all.Tie as tie
 
 abbrev Inv-loop : tie.InvT-loop
-Inv-loop file lines text₀ name₀ classes₀ want₀ bytes₀ now₀ at₀ text name classes want bytes now at =
-    (length text ≡ length text₀) × (length name ≡ length name₀) × (length classes ≡ length classes₀) × (length want ≡ length want₀) ×
-    (length bytes ≡ length bytes₀)
+Inv-loop file lines store₀ want₀ now₀ at₀ store want now at =
+    (length store ≡ length store₀) × (length want ≡ length want₀) × (1126403 ≤ length store)
 
 abbrev μ-loop : tie.MeasureT-loop
-μ-loop file lines text₀ name₀ classes₀ want₀ bytes₀ now₀ at₀ text name classes want bytes now at =
-    length lines - at
+μ-loop file lines store₀ want₀ now₀ at₀ store want now at = length lines - at
 
 loop-holds : tie.Need-loop-holds Inv-loop μ-loop
 loop-holds c = search needs
@@ -48,15 +46,6 @@ same-length c = search needs
 same-length-2 : tie.Need-same-length-2 Inv-loop μ-loop
 same-length-2 c = search needs
 
-same-length-3 : tie.Need-same-length-3 Inv-loop μ-loop
-same-length-3 c = search needs
-
-same-length-4 : tie.Need-same-length-4 Inv-loop μ-loop
-same-length-4 c = search needs
-
-same-length-5 : tie.Need-same-length-5 Inv-loop μ-loop
-same-length-5 c = search needs
-
 returns : tie.Need-returns Inv-loop μ-loop
 returns c = search needs
 
@@ -77,7 +66,4 @@ check-all-spec =
     loop-again
     same-length
     same-length-2
-    same-length-3
-    same-length-4
-    same-length-5
     returns)

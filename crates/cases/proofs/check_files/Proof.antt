@@ -1,19 +1,17 @@
 -- `check_files` is safe and ends. The buffers keep their lengths; the measure is how many files are left.
 use mathlib.Core.Path.{_≡_}
-use Prim.Native.Nat.{_-_}
+use Prim.Native.Nat.{_≤_, _-_}
 use lib.ListN.{length}
 use borrow.Author.Needs.{needs}
 use Rattle.cases.proofs.check_files.Statement.{statement}
 use Rattle.cases.proofs.check_files.Tie as tie
 
 abbrev Inv-loop : tie.InvT-loop
-Inv-loop lines₀ text₀ name₀ classes₀ want₀ bytes₀ now₀ file₀ lines text name classes want bytes now file =
-    (length lines ≡ length lines₀) × (length text ≡ length text₀) × (length name ≡ length name₀) × (length classes ≡ length classes₀) ×
-    (length want ≡ length want₀) × (length bytes ≡ length bytes₀)
+Inv-loop lines₀ store₀ want₀ now₀ file₀ lines store want now file =
+    (length lines ≡ length lines₀) × (length store ≡ length store₀) × (length want ≡ length want₀) × (1126403 ≤ length store)
 
 abbrev μ-loop : tie.MeasureT-loop
-μ-loop lines₀ text₀ name₀ classes₀ want₀ bytes₀ now₀ file₀ lines text name classes want bytes now file =
-    3 - file
+μ-loop lines₀ store₀ want₀ now₀ file₀ lines store want now file = 3 - file
 
 new-requires : tie.Need-new-requires Inv-loop μ-loop
 new-requires c κs = search needs
@@ -45,15 +43,6 @@ same-length-2 c = search needs
 same-length-3 : tie.Need-same-length-3 Inv-loop μ-loop
 same-length-3 c = search needs
 
-same-length-4 : tie.Need-same-length-4 Inv-loop μ-loop
-same-length-4 c = search needs
-
-same-length-5 : tie.Need-same-length-5 Inv-loop μ-loop
-same-length-5 c = search needs
-
-same-length-6 : tie.Need-same-length-6 Inv-loop μ-loop
-same-length-6 c = search needs
-
 returns : tie.Need-returns Inv-loop μ-loop
 returns c = search needs
 
@@ -73,7 +62,4 @@ check-files-spec =
     same-length
     same-length-2
     same-length-3
-    same-length-4
-    same-length-5
-    same-length-6
     returns)

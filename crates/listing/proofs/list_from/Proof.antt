@@ -5,7 +5,7 @@ use lib.Seq.{length-take-le}
 use Rattle.definition.specs.Utf8.{encode, encode-all}
 use Rattle.definition.specs.Tables.{cps}
 use Rattle.progress.proofs.Moves.{left}
-use Rattle.listing.proofs.LineLaws.{wrote-within}
+use Rattle.lines.proofs.LineLaws.{wrote-within}
 use Rattle.listing.proofs.RunsOn.{Going, going-starts, going-on, round-fewer, round-wrote, round-few, ends-refused, ends-all}
 use borrow.Author.Needs.{needs}
 use Rattle.listing.proofs.list_from.Statement.{statement}

@@ -1,15 +1,15 @@
--- `pieces` is safe and ends. The measure is what is left of the wanted records.
-use Prim.Native.Nat.{_-_}
+-- `pieces` is safe and ends. The store is long enough; the measure is what is left of the wanted records.
+use Prim.Native.Nat.{_≤_, _-_}
 use lib.ListN.{length}
 use borrow.Author.Needs.{needs}
 use Rattle.cases.proofs.running.pieces.Statement.{statement}
 use Rattle.cases.proofs.running.pieces.Tie as tie
 
 abbrev Inv-loop : tie.InvT-loop
-Inv-loop site text name classes want bytes begin st₀ n₀ first₀ from₀ st n first from = Unit {0}
+Inv-loop site store used want begin st₀ n₀ first₀ from₀ st n first from = 1126403 ≤ length store
 
 abbrev μ-loop : tie.MeasureT-loop
-μ-loop site text name classes want bytes begin st₀ n₀ first₀ from₀ st n first from = length want - first
+μ-loop site store used want begin st₀ n₀ first₀ from₀ st n first from = length want - first
 
 loop-holds : tie.Need-loop-holds Inv-loop μ-loop
 loop-holds c = search needs

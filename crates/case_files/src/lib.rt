@@ -1,0 +1,112 @@
+// The files of cases: how far one is read, and what its lines count.
+// Proved: each function is safe and ends, and the buffer is as long as it is said to be. Assumed: what `libc` and `os` declare
+// of reading and writing.
+use case_lines::word_end;
+use comparing::report::Site;
+use comparing::report::differs;
+use comparing::report::second;
+use gathering::Case;
+use gathering::FINE;
+use gathering::SECOND;
+use inputs::read_opened;
+use libc::STDOUT_FILENO;
+use std::num::wrapping_add_u64;
+ghost use mathlib.Core.Path.{_≡_};
+ghost use lib.ListN.{length};
+ghost use Rattle.io.specs.Counts.{Counts};
+
+// How far a file is read: the case that is open, the number of the last line and of the line where the case began, how many
+// cases were run, and how many differences were found.
+pub struct Progress {
+    pub case: Case,
+    pub number: u64,
+    pub begun: u64,
+    pub cases: u64,
+    pub differences: u64,
+}
+
+impl Progress {
+    // So many differences more.
+    pub fn more(mut self, n: u64) -> Progress {
+        self.differences = wrapping_add_u64(self.differences, n);
+        self
+    }
+}
+
+// A file of cases.
+pub fn file_buffer() -> [u8; 524288]
+    ensures { λ r. ⌜ 524288 ≡ length r ⌝ }
+{
+    [0; 524288]
+}
+
+// Whether a line says nothing: it is empty or a comment.
+pub fn is_silent(line: &[u8]) -> bool {
+    if line.len() == 0 {
+        return true;
+    }
+    line[0] == b'#'
+}
+
+// What is wrong with a line is a difference.
+fn check_fault(site: Site, line: &[u8], fault: u32) -> u64 {
+    if fault == FINE {
+        return 0;
+    }
+    if fault == SECOND {
+        let end = word_end(line);
+        return second(site, &line[..end]);
+    }
+    differs(site, b"the line can't be read")
+}
+
+// The progress behind a line that a case has taken.
+pub fn taken(file: u32, line: &[u8], before: Progress, case: Case) -> Progress {
+    let mut now = before;
+    let open = before.case;
+    if case.open != open.open {
+        now.begun = before.number;
+    }
+    let mut rest = case;
+    rest.fault = FINE;
+    now.case = rest;
+    let site = Site {
+        file: file,
+        line: before.number,
+        run: 0,
+    };
+    now.more(check_fault(site, line, case.fault))
+}
+
+// The progress behind a case that is over.
+pub fn closed(before: Progress, n: u64) -> Progress {
+    let mut now = before.more(n);
+    let none = Case::new(false, [0; 4]);
+    now.case = none;
+    now.cases = wrapping_add_u64(now.cases, 1);
+    now
+}
+
+// Opens a file of cases, in the order of `report::write_file`.
+fn open_cases(file: u32) -> i32 {
+    match file {
+        0 => os::open_read(b"document.cases"),
+        1 => os::open_read(b"short.cases"),
+        _ => os::open_read(b"long.cases"),
+    }
+}
+
+// Reads a file of cases and answers how many bytes it has; none where it can't be opened.
+pub fn read_cases(file: u32, lines: &mut [u8]) -> usize
+    ensures { λ r. ⌜ Counts r (now (lines .exit)) ⌝ }
+{
+    read_opened(open_cases(file), lines)
+}
+
+// The last line.
+pub fn conclude(now: Progress) {
+    io::print_decimal(STDOUT_FILENO, now.cases);
+    io::write_all(STDOUT_FILENO, b" cases, ");
+    io::print_decimal(STDOUT_FILENO, now.differences);
+    io::write_all(STDOUT_FILENO, b" differences\n");
+}

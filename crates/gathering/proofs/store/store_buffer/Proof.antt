@@ -1,0 +1,12 @@
+-- The length of a buffer, by the law of repeats: computed, it would take the checker's stack.
+use Prim.Native.Nat.{ℕ}
+use mathlib.Core.Path.{sym}
+use lib.ListN.{length-replicate}
+use Rattle.gathering.proofs.store.store_buffer.Statement.{statement}
+use Rattle.gathering.proofs.store.store_buffer.Tie as tie
+
+returns : tie.Need-returns
+returns c = sym (length-replicate {A = ℕ} 1126403 0)
+
+pub store-buffer-spec : {M : Type 1} → statement M
+store-buffer-spec = tie.close (tie.spec returns)

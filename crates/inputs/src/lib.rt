@@ -1,0 +1,51 @@
+// What the programs read, and what they read it into: files, and buffers with one byte more than a text or a class file may
+// have, so that a longer one is refused and not cut.
+// Proved: each function is safe and ends; the buffers are as long as they are said to be; a count of bytes read is one of
+// the buffer's first bytes. Assumed: what `libc` and `os` declare of reading; a read that fails counts as the end.
+ghost use mathlib.Core.Path.{_≡_};
+ghost use Prim.Native.Nat.{_≤_};
+ghost use lib.ListN.{length};
+ghost use Rattle.io.specs.Counts.{Counts};
+
+// For a text.
+pub fn text_buffer() -> [u8; 1048577]
+    ensures { λ r. ⌜ 1048577 ≡ length r ⌝ }
+{
+    [0; 1048577]
+}
+
+// For a class file.
+pub fn class_buffer() -> [u8; 65537]
+    ensures { λ r. ⌜ 65537 ≡ length r ⌝ }
+{
+    [0; 65537]
+}
+
+// Reads a file that was opened, closes it, and answers how many bytes came; none where it couldn't be opened.
+pub fn read_opened(fd: i32, bytes: &mut [u8]) -> usize
+    ensures { λ r. ⌜ Counts r (now (bytes .exit)) ⌝ }
+{
+    if fd < 0 {
+        return 0;
+    }
+    let n = io::read_full(fd, bytes);
+    libc::close(fd);
+    n
+}
+
+// Reads the class file of the working directory; a missing one counts as a file of no bytes.
+pub fn read_classes(file: &mut [u8]) -> usize
+    ensures { λ r. ⌜ Counts r (now (file .exit)) ⌝ }
+{
+    read_opened(os::open_read(b"classes.bin"), file)
+}
+
+// The lesser of two numbers.
+pub fn least(a: usize, b: usize) -> usize
+    ensures { λ r. ⌜ (r ≤ a) × (r ≤ b) ⌝ }
+{
+    if a < b {
+        return a;
+    }
+    b
+}
