@@ -62,17 +62,17 @@ fn error_over(text: &[u8], name: &[u8], at: Place, e: usize, number: u32, payloa
 {
     let st = at.st;
     let known = at.known;
-    let start = pos_of(text, st, known, st.offset);
-    let end = pos_of(text, st, start.known, e as u32);
+    let first = pos_of(text, st, known, st.offset);
+    let last = pos_of(text, st, first.known, e as u32);
     lex_error(
         text,
         name,
         st,
-        end.known,
+        last.known,
         number,
         payload,
-        start.pos,
-        end.pos,
+        first.pos,
+        last.pos,
     )
 }
 
@@ -103,7 +103,7 @@ pub fn char_lit(text: &[u8], name: &[u8], at: Place, e: usize) -> Read
     let known = at.known;
     let start = pos_of(text, st, known, st.offset);
     let end = pos_of(text, st, start.known, e as u32);
-    let next = st.advance(e as u32);
+    let behind = st.advance(e as u32);
     let nothing = Payload::Part { from: 0, to: 0 };
     let c = unescape(text, st.offset as usize + 1);
     token(
@@ -113,7 +113,7 @@ pub fn char_lit(text: &[u8], name: &[u8], at: Place, e: usize) -> Read
         start.pos,
         end.pos,
         Extra::CharLit(c),
-        next,
+        behind,
         end.known,
     )
 }

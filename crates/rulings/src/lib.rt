@@ -7,7 +7,7 @@
 // Assumed: nothing but what each function's `requires` says: a reader stands in a sound state of a legal text, and the
 // choice ends behind it (`Chose`).
 pub mod lexemes; // lexemes.rt: tokens that their lexemes decide
-pub mod numbers; // numbers.rt: numbers
+pub mod numeric; // numeric.rt: numbers
 pub mod operators; // operators.rt: what a line comment may cut
 
 use described::Payload;

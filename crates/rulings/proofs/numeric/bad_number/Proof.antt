@@ -1,8 +1,8 @@
 -- The payload is the whole lexeme.
 use Rattle.rulings.proofs.Cleaning.{bad-rules}
 use borrow.Author.Needs.{needs}
-use Rattle.rulings.proofs.numbers.bad_number.Statement.{statement}
-use Rattle.rulings.proofs.numbers.bad_number.Tie as tie
+use Rattle.rulings.proofs.numeric.bad_number.Statement.{statement}
+use Rattle.rulings.proofs.numeric.bad_number.Tie as tie
 
 cast-t5 : tie.Need-cast-t5
 cast-t5 c = search needs

@@ -1,8 +1,8 @@
 -- A part of the lexeme is a part of the text.
 use Rattle.rulings.proofs.Cleaning.{cleaned-at}
 use borrow.Author.Needs.{needs}
-use Rattle.rulings.proofs.numbers.cleaned.Statement.{statement}
-use Rattle.rulings.proofs.numbers.cleaned.Tie as tie
+use Rattle.rulings.proofs.numeric.cleaned.Statement.{statement}
+use Rattle.rulings.proofs.numeric.cleaned.Tie as tie
 
 sub-clean-number : tie.Need-sub-clean-number
 sub-clean-number c = search needs

@@ -1,8 +1,8 @@
 -- The payload is the cleaned part.
 use Rattle.rulings.proofs.Cleaning.{number-rules}
 use borrow.Author.Needs.{needs}
-use Rattle.rulings.proofs.numbers.number.Statement.{statement}
-use Rattle.rulings.proofs.numbers.number.Tie as tie
+use Rattle.rulings.proofs.numeric.number.Statement.{statement}
+use Rattle.rulings.proofs.numeric.number.Tie as tie
 
 cast-i : tie.Need-cast-i
 cast-i c = search needs

@@ -2,8 +2,8 @@
 use Rattle.definition.specs.Kinds.{kind, kind-names, number-from}
 use Rattle.rulings.proofs.Cleaning.{big-rules, uint8-rules}
 use borrow.Author.Needs.{needs}
-use Rattle.rulings.proofs.numbers.uint8.Statement.{statement}
-use Rattle.rulings.proofs.numbers.uint8.Tie as tie
+use Rattle.rulings.proofs.numeric.uint8.Statement.{statement}
+use Rattle.rulings.proofs.numeric.uint8.Tie as tie
 
 cast-i : tie.Need-cast-i
 cast-i c = search needs
