@@ -1,4 +1,2 @@
 pub mod Tabling
-pub mod Keys
 pub mod RuleLaws
-pub mod PlainLaws

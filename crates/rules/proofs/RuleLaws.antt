@@ -27,10 +27,10 @@ use Rattle.soundness.proofs.Moving.{stands-within}
 use Rattle.rulings.specs.Rulings.{Chose, Rules, ruling-step}
 use Rattle.rulings.specs.declared.Ruling.{Ruling}
 use Rattle.rulings.proofs.RulingLaws.{rules-same}
-use Rattle.rules.specs.Keys.{Missing, keyed}
-use Rattle.rules.specs.Plain.{place-kinds}
-use Rattle.rules.specs.Ruling.{rule-numbers, rule-of, does}
-use Rattle.rules.specs.Tabled.{table-size, Tabled}
+use Rattle.place_rules.specs.Keys.{Missing, keyed}
+use Rattle.place_rules.specs.Plain.{place-kinds}
+use Rattle.place_rules.specs.Ruling.{rule-numbers, rule-of, does}
+use Rattle.place_rules.specs.Tabled.{table-size, Tabled}
 use Rattle.rules.specs.Acting.{Acts, ReadsOn, Short}
 use Rattle.rules.proofs.Tabling.{select-tabled}
 

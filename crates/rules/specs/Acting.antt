@@ -10,8 +10,8 @@ use Rattle.definition.specs.Select.{select}
 use Rattle.definition.specs.declared.Choice.{Choice}
 use Rattle.described.specs.Standing.{Standing}
 use Rattle.described.specs.declared.Place.{Place}
-use Rattle.rules.specs.Keys.{Missing, keyed}
-use Rattle.rules.specs.Ruling.{rule-of}
+use Rattle.place_rules.specs.Keys.{Missing, keyed}
+use Rattle.place_rules.specs.Ruling.{rule-of}
 
 pub record Acts (s name f : Bytes) (at : Place) (c : Choice) : Type 0 where
   pub standing : Standing s (at .st) (at .known)

@@ -1,5 +1,1 @@
-pub mod Keys
-pub mod Plain
-pub mod Tabled
-pub mod Ruling
 pub mod Acting

@@ -8,49 +8,46 @@
 // Assumed: nothing but what `act`'s `requires` says: a reader stands in a sound state of a legal text, between comments, the
 // choice is `select`'s, and its rule is neither that of white space nor that of a line end. Those two read nothing; who asks
 // for a choice passes them (crate `steps`), so that an item is handed on as it was made.
-pub mod table; // table.rt: the rule and the kind of each place
-pub mod plain; // plain.rt: tokens that their places and words decide
-
-use crate::plain::plain;
-use crate::table::BAD_NUMBER;
-use crate::table::BYTE_NUMBER;
-use crate::table::CAPITAL_NAME;
-use crate::table::CHARACTER;
-use crate::table::COMMENT;
-use crate::table::FENCED;
-use crate::table::GREATER;
-use crate::table::IDENTIFIER;
-use crate::table::KEYWORD_OPERATOR;
-use crate::table::LANGUAGE;
-use crate::table::LINE_COMMENT;
-use crate::table::LITERAL;
-use crate::table::NO_RULE;
-use crate::table::NUMBER;
-use crate::table::PLAIN;
-use crate::table::UNICODE_OPERATOR;
-use crate::table::kind_of;
-use crate::table::rule_of;
 use definition::Choice;
 use described::Place;
 use described::Read;
 use described::tokens::error_here;
 use finishes::char_lit;
 use finishes::finish;
+use number_rulings::bad_number;
+use number_rulings::number;
+use number_rulings::uint8;
+use operator_rulings::gt;
+use operator_rulings::kw_op;
+use operator_rulings::op;
+use place_rules::plain::plain;
+use place_rules::table::BAD_NUMBER;
+use place_rules::table::BYTE_NUMBER;
+use place_rules::table::CAPITAL_NAME;
+use place_rules::table::CHARACTER;
+use place_rules::table::COMMENT;
+use place_rules::table::FENCED;
+use place_rules::table::GREATER;
+use place_rules::table::IDENTIFIER;
+use place_rules::table::KEYWORD_OPERATOR;
+use place_rules::table::LANGUAGE;
+use place_rules::table::LINE_COMMENT;
+use place_rules::table::LITERAL;
+use place_rules::table::NO_RULE;
+use place_rules::table::NUMBER;
+use place_rules::table::PLAIN;
+use place_rules::table::UNICODE_OPERATOR;
+use place_rules::table::kind_of;
+use place_rules::table::rule_of;
 use readers::comment_start;
 use readers::fenced;
 use readers::language;
 use readers::literal;
 use readers::slashes;
 use rulings::Ruling;
-use rulings::lexemes::capital_name;
-use rulings::lexemes::ident;
-use rulings::lexemes::unicode_operator;
-use rulings::numeric::bad_number;
-use rulings::numeric::number;
-use rulings::numeric::uint8;
-use rulings::operators::gt;
-use rulings::operators::kw_op;
-use rulings::operators::op;
+use word_rulings::capital_name;
+use word_rulings::ident;
+use word_rulings::unicode_operator;
 ghost use mathlib.Core.Path.{_≡_};
 ghost use Prim.Native.Nat.{_≤_};
 ghost use lib.ListN.{length};
@@ -59,8 +56,8 @@ ghost use Rattle.definition.specs.Token.{act};
 ghost use Rattle.described.specs.Described.{Turns};
 ghost use Rattle.described.specs.declared.Turned.the-variants.{Done};
 ghost use Rattle.rulings.specs.Rulings.{Chose, Rules};
-ghost use Rattle.rules.specs.Tabled.{Tabled};
-ghost use Rattle.rules.specs.Ruling.{rule-of, does};
+ghost use Rattle.place_rules.specs.Tabled.{Tabled};
+ghost use Rattle.place_rules.specs.Ruling.{rule-of, does};
 ghost use Rattle.rules.specs.Acting.{Acts, ReadsOn, Short};
 
 // An unexpected character.

@@ -1,6 +1,3 @@
 pub mod Parts
 pub mod Spanning
 pub mod RulingLaws
-pub mod Entries
-pub mod Cleaning
-pub mod Cutting

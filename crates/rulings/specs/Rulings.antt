@@ -1,28 +1,22 @@
 -- What a ruling on a choice stands for, and what is asked where it is carried out. s is the text, name the file's name, f the class
 -- file, at the place where the reader stands, e the choice's end.
-use Prim.Native.Nat.{ℕ, _≤_, _<_}
+use Prim.Native.Nat.{ℕ, _≤_}
 use Prim.Native.String.{String}
 use mathlib.Core.Path.{_≡_}
 use mathlib.Core.List.{[]}
-use lib.ListN.{length, getD}
+use lib.ListN.{length}
 use Rattle.definition.specs.Basics.{Bytes, done}
-use Rattle.definition.specs.Text.{lexeme}
 use Rattle.definition.specs.Kinds.{kind}
-use Rattle.definition.specs.Numbers.{clean-number}
 use Rattle.definition.specs.Position.{pos-of, cur-pos}
 use Rattle.definition.specs.State.{advance}
 use Rattle.definition.specs.Item.{Step, tok, lex-error}
 use Rattle.definition.specs.Comment.{line-comment}
-use Rattle.definition.specs.Token.{Token-turn, entry, finish}
+use Rattle.definition.specs.Token.{Token-turn}
 use Rattle.definition.specs.declared.State.{State}
 use Rattle.definition.specs.declared.Extra.{Extra}
 use Rattle.definition.specs.declared.Extra.the-variants.{NoExtra}
 use Rattle.state.specs.Sound.{Stands}
 use Rattle.progress.proofs.Walks.{Onward}
-use Rattle.numerals.specs.declared.Part.{Part}
-use Rattle.lookups.specs.declared.Word.{Word}
-use Rattle.lookups.specs.declared.Word.the-variants.{At, Nowhere}
-use Rattle.entries.specs.Entries.{entries, texts}
 use Rattle.described.specs.Described.{bytes-of, Sized, Describes}
 use Rattle.described.specs.Standing.{Standing}
 use Rattle.described.specs.declared.Place.{Place}
@@ -48,8 +42,6 @@ pub record Spans (s name : Bytes) (at : Place) (i e : ℕ) (p : Payload) : Type 
   pub next : Stands s (advance (at .st) e)
   pub sized : Sized name p
 
--- ---- rulings
-
 -- p describes the bytes that it stands for: they lie in the text, and are as many as it says
 abbrev pub Described : Bytes → Bytes → Payload → Type 0
 Described s name p = (f : Bytes) → Describes s name f p (bytes-of s name f p)
@@ -74,23 +66,3 @@ pub record Rules (s name : Bytes) (at : Place) (e : ℕ) (t : Token-turn) (r : R
 -- what a rule gives that makes a token of a kind, k being its number
 abbrev pub RulesOf : Bytes → Place → ℕ → ℕ → (String → Token-turn) → Ruling → Type 0
 RulesOf s at e k t r = (name : Bytes) (x : String) → k ≡ kind x → Rules s name at e (t x) r
-
--- ---- words
-
--- the token of a word of the tables, or the lexeme with a kind
-abbrev pub worded : Bytes → State → ℕ → Word → ℕ → Token-turn
-worded s st e (At w) k = finish s st e (kind (entry entries w .1)) (getD texts w [])
-worded s st e Nowhere k = finish s st e k (lexeme s (st .offset) e)
-
--- a word of the tables in which lexemes are looked up
-abbrev pub Placed : Word → Type 0
-Placed (At w) = w < 119
-Placed Nowhere = Unit {0}
-
--- ---- numbers
-
--- the part that is left of the number between i and e
-pub record CleanedAt (s : Bytes) (i e : ℕ) (part : Part) : Type 0 where
-  pub ordered : part .from ≤ part .to
-  pub within : part .to ≤ e
-  pub is : lexeme s (part .from) (part .to) ≡ clean-number (lexeme s i e)

@@ -1,15 +1,8 @@
 // What a rule says of a choice that is read whole: a token, an error, or a line's comment. A ruling is small and is made
-// before any position is asked for; what is read of it is made in one place (crate `finishes`), so that nothing large is
-// handed from rule to rule.
+// before any position is asked for (crates `word_rulings`, `number_rulings`, `operator_rulings`); what is read of it is made
+// in one place (crate `finishes`), so that nothing large is handed from rule to rule.
 //
-// Proved: each function's ruling stands for what the definition's rule gives (crates/definition/specs/Token.antt): item,
-// payload and state. No payload is copied: each is a part of the text, a `>` and a part, or a text of the tables.
-// Assumed: nothing but what each function's `requires` says: a reader stands in a sound state of a legal text, and the
-// choice ends behind it (`Chose`).
-pub mod lexemes; // lexemes.rt: tokens that their lexemes decide
-pub mod numeric; // numeric.rt: numbers
-pub mod operators; // operators.rt: what a line comment may cut
-
+// What a ruling stands for, and what carrying it out asks for, is said in specs/Rulings.antt. There is no code here.
 use described::Payload;
 
 pub enum Ruling {

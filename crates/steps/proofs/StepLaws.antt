@@ -34,7 +34,7 @@ use Rattle.described.specs.declared.Turned.the-variants.{Done, Again}
 use Rattle.described.proofs.Standing.{known-asked, known-kept}
 use Rattle.described.proofs.Turning.{turned-done, turned-again}
 use Rattle.line_comments.specs.Contracts.{ReadsAny}
-use Rattle.rules.specs.Ruling.{rule-of}
+use Rattle.place_rules.specs.Ruling.{rule-of}
 use Rattle.rules.specs.Acting.{Acts}
 use Rattle.rules.proofs.RuleLaws.{chose, by-rule, moved-turns, line-turns}
 use Rattle.steps.specs.Ready.{eof, ReadsEach, Ready}

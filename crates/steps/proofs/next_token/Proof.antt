@@ -14,7 +14,7 @@ use Rattle.steps.proofs.next_token.Lts as lts
 use Rattle.described.proofs.places.moved.Reads as moved-reads
 use Rattle.described.proofs.places.next_line.Reads as next-line-reads
 use Rattle.rules.proofs.act.Reads as act-reads
-use Rattle.rules.proofs.table.rule_of.Reads as rule-of-reads
+use Rattle.place_rules.proofs.table.rule_of.Reads as rule-of-reads
 use Rattle.select.proofs.select.Reads as select-reads
 use Rattle.steps.proofs.end_of_text.Reads as end-of-text-reads
 use Rattle.steps.proofs.white.behind_white.Reads as behind-white-reads
