@@ -86,7 +86,7 @@ fn runs(
 fn checks(rounds: usize, text: &[u8]) -> usize {
     let mut legal = text.len();
     for _ in 0..rounds {
-        legal = least(legal, text::first_bad(&text[..legal]));
+        legal = least(legal, characters::first_bad(&text[..legal]));
     }
     legal
 }

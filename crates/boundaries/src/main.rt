@@ -23,7 +23,7 @@ fn print_bytes(bytes: &[u8]) {
 // The line of one text.
 fn show(bytes: &[u8]) {
     print_bytes(bytes);
-    let bad = text::first_bad(bytes);
+    let bad = characters::first_bad(bytes);
     if bad == bytes.len() {
         io::write_all(STDOUT_FILENO, b"legal\n");
         return;

@@ -57,7 +57,7 @@ fn choices(text: &[u8], file: &[u8]) {
         refuse(refusal);
         return;
     }
-    if text::first_bad(text) != text.len() {
+    if characters::first_bad(text) != text.len() {
         refuse(8);
         return;
     }

@@ -2,10 +2,10 @@
 // Proved: each public function answers what the definition's `unescape`, `is-surrogate` or `encode` says; `unescape` at any
 // offset of any bytes. A writer changes nothing behind the bytes that it writes.
 // Assumed: of `encode_into` that the number is at most 10FFFF and that its bytes fit.
+use characters::byte;
 use definition::Octet;
 use definition::Sequence;
 use numerals::digit_value;
-use text::byte;
 use text::sequence_at;
 ghost use mathlib.Core.Path.{_≡_};
 ghost use lib.ListN.{length};

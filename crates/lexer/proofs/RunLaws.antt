@@ -30,8 +30,8 @@ use Rattle.described.specs.declared.Place.{Place}
 use Rattle.described.specs.Described.{Known-at}
 use Rattle.runs.proofs.Items.{step-left}
 use Rattle.runs.proofs.Buffers.{words-size}
-use Rattle.lexer.specs.declared.Went.the-variants.{Stop, Wrote}
-use Rattle.lexer.specs.Running.{writing, answered, Ran, Kept, Between}
+use Rattle.run_turns.specs.declared.Went.the-variants.{Stop, Wrote}
+use Rattle.run_turns.specs.Running.{writing, answered, Ran, Kept, Between}
 
 module _ (s name f : Bytes) (named : length name ≤ 4096) where
   -- an item that was written leaves what was kept

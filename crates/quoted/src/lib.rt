@@ -3,6 +3,7 @@
 //
 // Proved: the answer of each public function is what the definition gives, at any offset of any bytes.
 // Assumed: nothing.
+use characters::byte;
 use definition::Match;
 use definition::Octet;
 use definition::Sequence;
@@ -10,7 +11,6 @@ use fixed_chars::is_newline_char;
 use peeks::byte_is;
 use peeks::byte_twice;
 use scan::hex_at;
-use text::byte;
 use text::sequence_at;
 ghost use mathlib.Core.Path.{_≡_};
 ghost use Rattle.definition.specs.Basics.{codes, mem-cp};

@@ -1,9 +1,9 @@
 // What a run is refused for, in document 01's order: the text's length, the name's, the class file, ill-formed UTF-8, an
 // unsound state. Proved: the answer is the definition's `refusal`, for every input. Assumed: nothing.
+use characters::first_bad;
 use classes::check::class_check;
 use definition::State;
 use state::sound;
-use text::first_bad;
 ghost use mathlib.Core.Path.{_≡_};
 ghost use Prim.Native.Nat.{_≤_};
 ghost use lib.ListN.{length};

@@ -1,17 +1,12 @@
-// Reading a text: what stands at an offset, as a sequence, a character, a byte and the offset after a character, and the
-// first offset where no legal UTF-8 sequence starts.
-// Proved: each public function is the definition's function of the same name, at any bytes and any offset, so no caller
-// owes anything. proofs/Laws.antt has the laws of those functions: decoding against encoding, legal texts, boundaries.
+// Decoding: which UTF-8 sequence stands at an offset of a text.
+// Proved: `sequence_at` is the definition's, at any bytes and any offset, so no caller owes anything. proofs/Laws.antt has
+// the laws of reading a text: decoding against encoding, legal texts, boundaries.
 // Assumed: nothing.
-use definition::Letter;
-use definition::Match;
-use definition::Octet;
 use definition::Sequence;
 ghost use mathlib.Core.Path.{_≡_};
 ghost use Prim.Native.Nat.{_<_};
 ghost use lib.ListN.{getD};
 ghost use Rattle.definition.specs.Utf8.{tail-bits, two, three, three-bytes, four, four-bytes, sequence-at};
-ghost use Rattle.definition.specs.Text.{get, byte, next, first-bad};
 
 // The six bits of a byte 80 to BF at i, which continues a sequence; 64 for any other, and past the end.
 fn tail_bits_at(text: &[u8], i: usize) -> u32
@@ -128,62 +123,4 @@ pub fn sequence_at(text: &[u8], i: usize) -> Sequence
         return four((first - 0xF0) as u32, second, third, fourth);
     }
     Sequence::Bad
-}
-
-// The character at i.
-pub fn get(text: &[u8], i: usize) -> Letter
-    ensures { λ r. ⌜ r ≡ get (now (text .entry)) i ⌝ }
-{
-    match sequence_at(text, i) {
-        Sequence::Char(c, _) => Letter::Code(c),
-        Sequence::Bad => Letter::Past,
-        Sequence::End => Letter::Past,
-    }
-}
-
-// The offset after the character at i.
-pub fn next(text: &[u8], i: usize) -> Match
-    ensures { λ r. ⌜ r ≡ next (now (text .entry)) i ⌝ }
-{
-    match sequence_at(text, i) {
-        Sequence::Char(_, width) => Match::To(i + width),
-        Sequence::Bad => Match::Nothing,
-        Sequence::End => Match::Nothing,
-    }
-}
-
-// The byte at i.
-pub fn byte(text: &[u8], i: usize) -> Octet
-    ensures { λ r. ⌜ r ≡ byte (now (text .entry)) i ⌝ }
-{
-    if i < text.len() {
-        return Octet::Byte(text[i]);
-    }
-    Octet::Past
-}
-
-// The first offset, from 0 by legal sequences, where none starts; the length where there is none. A byte below 80 is a
-// character by itself, so a run of them is passed without the decoder.
-pub fn first_bad(text: &[u8]) -> usize
-    ensures { λ r. ⌜ r ≡ first-bad (now (text .entry)) ⌝ }
-{
-    let mut i = 0;
-    while i < text.len() {
-        if text[i] < 0x80 {
-            i += 1;
-            continue;
-        }
-        match sequence_at(text, i) {
-            Sequence::Char(_, width) => {
-                i += width;
-            }
-            Sequence::Bad => {
-                return i;
-            }
-            Sequence::End => {
-                return i;
-            }
-        }
-    }
-    i
 }

@@ -1,10 +1,10 @@
 -- `next` is the definition's `next`: both see nothing but what stands at the offset. A character ends within the text, so the sum fits.
 use borrow.Author.Needs.{needs}
 use mathlib.Core.Path.{sym, _∙_}
 use Rattle.text.proofs.Reading.{next-of}
 use Rattle.text.proofs.Character.{char-read, char-within}
-use Rattle.text.proofs.next.Statement.{statement}
-use Rattle.text.proofs.next.Tie as tie
+use Rattle.characters.proofs.next.Statement.{statement}
+use Rattle.characters.proofs.next.Tie as tie
 
 sequence-at-requires : tie.Need-sequence-at-requires
 sequence-at-requires c κs = search needs

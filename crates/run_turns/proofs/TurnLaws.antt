@@ -18,8 +18,8 @@ use Rattle.described.specs.declared.Payload.{Payload}
 use Rattle.described.specs.declared.Payload.the-variants.{Part, Text, Greater, Name, Line, FileLine, Literal, Piece, Blob}
 use Rattle.described.specs.Described.{bytes-of, length-of, Listed, Inside, Measurable, Reads, Known-at}
 use Rattle.soundness.proofs.Payloads.{payload-bound, budget-small}
-use Rattle.lexer.specs.declared.Went.the-variants.{Wrote}
-use Rattle.lexer.specs.Running.{writing, Ran, Between, ItemFits}
+use Rattle.run_turns.specs.declared.Went.the-variants.{Wrote}
+use Rattle.run_turns.specs.Running.{writing, Ran, Between, ItemFits}
 
 module _ (s name f : Bytes) (a : Writing) where
   -- the reading has ended

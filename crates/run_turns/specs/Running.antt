@@ -16,8 +16,8 @@ use Rattle.soundness.specs.Budget.{budget}
 use Rattle.described.specs.declared.Place.{Place}
 use Rattle.described.specs.declared.Read.{Read}
 use Rattle.described.specs.Described.{bytes-of, length-of, Inside, Known-at}
-use Rattle.lexer.specs.declared.Went.{Went}
-use Rattle.lexer.specs.declared.Went.the-variants.{Stop, Wrote}
+use Rattle.run_turns.specs.declared.Went.{Went}
+use Rattle.run_turns.specs.declared.Went.the-variants.{Stop, Wrote}
 
 -- the run, as the definition has it
 abbrev pub writing : Place → ℕ → ℕ → List ℕ → Bytes → Writing

@@ -1,11 +1,11 @@
 -- Each return is a way that the definition's turn goes.
 use Prim.Native.Nat.{_≤_}
-use Rattle.lexer.specs.Running.{writing}
-use Rattle.lexer.proofs.TurnLaws.{turn-ended, turn-full, long-ran, wrote-ran, size-small, measurable, item-fits}
+use Rattle.run_turns.specs.Running.{writing}
+use Rattle.run_turns.proofs.TurnLaws.{turn-ended, turn-full, long-ran, wrote-ran, size-small, measurable, item-fits}
 use native.Mathlib.Omega.{arith}
 use borrow.Author.Needs.{needs}
-use Rattle.lexer.proofs.turn.Statement.{statement}
-use Rattle.lexer.proofs.turn.Tie as tie
+use Rattle.run_turns.proofs.turn.Statement.{statement}
+use Rattle.run_turns.proofs.turn.Tie as tie
 
 returns : tie.Need-returns
 returns c =

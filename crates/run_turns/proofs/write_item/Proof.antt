@@ -1,8 +1,8 @@
 -- Each buffer's tail comes back written over.
 use Rattle.lemmas.proofs.Tails.{lent}
 use borrow.Author.Needs.{needs}
-use Rattle.lexer.proofs.write_item.Statement.{statement}
-use Rattle.lexer.proofs.write_item.Tie as tie
+use Rattle.run_turns.proofs.write_item.Statement.{statement}
+use Rattle.run_turns.proofs.write_item.Tie as tie
 
 sub-write : tie.Need-sub-write
 sub-write c = search needs

@@ -1,8 +1,8 @@
 -- `byte` is the definition's `byte`: an equation for each arm.
 use borrow.Author.Needs.{needs}
 use Rattle.text.proofs.Reading.{byte-within, byte-end}
-use Rattle.text.proofs.byte.Statement.{statement}
-use Rattle.text.proofs.byte.Tie as tie
+use Rattle.characters.proofs.byte.Statement.{statement}
+use Rattle.characters.proofs.byte.Tie as tie
 
 shared-slice-read-t6 : tie.Need-shared-slice-read-t6
 shared-slice-read-t6 c = search needs

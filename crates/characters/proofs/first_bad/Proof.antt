@@ -12,11 +12,11 @@ use Rattle.definition.specs.Text.{star, first-bad}
 use Rattle.definition.specs.declared.Sequence.{Sequence}
 use Rattle.definition.specs.declared.Sequence.the-variants.{Char}
 use Rattle.lemmas.proofs.Cases.{tests}
 use Rattle.text.proofs.Reading.{read-within, read-end, No-char}
 use Rattle.text.proofs.Character.{char-read, char-within}
 use Rattle.text.proofs.Star.{star-on, star-none}
-use Rattle.text.proofs.first_bad.Statement.{statement}
-use Rattle.text.proofs.first_bad.Tie as tie
+use Rattle.characters.proofs.first_bad.Statement.{statement}
+use Rattle.characters.proofs.first_bad.Tie as tie
 
 -- Any character passes.
 abbrev any : ℕ → Bool

@@ -1,9 +1,9 @@
 -- `get` is the definition's `get`: both see nothing but what stands at the offset.
 use borrow.Author.Needs.{needs}
 use mathlib.Core.Path.{sym, _∙_}
 use Rattle.text.proofs.Reading.{get-of}
-use Rattle.text.proofs.get.Statement.{statement}
-use Rattle.text.proofs.get.Tie as tie
+use Rattle.characters.proofs.get.Statement.{statement}
+use Rattle.characters.proofs.get.Tie as tie
 
 sequence-at-requires : tie.Need-sequence-at-requires
 sequence-at-requires c κs = search needs
