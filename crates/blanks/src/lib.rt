@@ -1,6 +1,7 @@
 // Runs of white space. Blanks, which are the white space of ASCII, are passed by bytes.
 //
-// Proved: the answer of each public function is what the definition gives, at any offset of any bytes.
+// Proved: the answer of each public function is what the definition gives, at any offset of any bytes; that of `blank_at`
+// is what specs/Blanks.antt says of blanks, which are the definition's white space below 80 (proofs/WhiteLaws.antt).
 // Assumed: nothing but what each function's `requires` says: a class file that `class_check` accepts where a class is
 // asked.
 use chars::is_anywhite;

@@ -1,6 +1,6 @@
 // The texts at the boundaries of RFC 3629's table: for each its bytes, and `legal` or the first offset where no legal
 // sequence starts.
-// Proved: it ends and breaks nothing, and the offset is the definition's (crate `text`). What it writes is compared with
+// Proved: it ends and breaks nothing, and the offset is the definition's (crate `characters`). What it writes is compared with
 // the file stdout.
 // Assumed: what `libc` declares of `write`.
 use libc::STDOUT_FILENO;

@@ -87,7 +87,7 @@ pub fn closed(before: Progress, n: u64) -> Progress {
     now
 }
 
-// Opens a file of cases, in the order of `report::write_file`.
+// Opens a file of cases, in the order in which `comparing` names them.
 fn open_cases(file: u32) -> i32 {
     match file {
         0 => os::open_read(b"document.cases"),

@@ -3,8 +3,8 @@
 // there were and how many differences.
 //
 // document.cases is written by hand, from document 01 and the source; scripts/make-cases makes short.cases and long.cases.
-// A line that can't be read, a file that can't be opened and a case that has no end are differences too. The head of
-// document.cases says what a case's lines mean.
+// A line that can't be read, a word that stands a second time in a case, a file that can't be opened and a case that has
+// no end are differences too. The head of document.cases says what a case's lines mean.
 //
 // Of each case: the start and the class check; a run with large buffers; and, where the case neither is refused nor names
 // its buffers, the run split by the smallest buffers that make headway (running.rt).

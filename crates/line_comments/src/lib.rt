@@ -1,9 +1,9 @@
 // A line's comment: the source's `line_comment`.
 //
-// Proved: what `line_comment` reads is what the definition's gives: the item, a payload that describes its bytes, the state, and a
-// column that is known there.
-// Assumed: nothing but what its `requires` says: a reader stands in a sound state of a legal text, no earlier than where the comment
-// began.
+// Proved: what `line_comment` reads is what the definition's gives: the item, a payload that describes its bytes, the state,
+// and a column that is known there.
+// Assumed: nothing but what its `requires` says: a reader stands in a sound state of a legal text, no earlier than where the
+// comment began.
 // Cost: a comment is read once.
 use definition::Extra;
 use definition::Item;

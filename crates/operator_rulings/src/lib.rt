@@ -68,14 +68,14 @@ pub fn op(text: &[u8], at: Place, e: usize, kind: u32) -> Ruling
 {
     let st = at.st;
     let i = st.offset as usize;
-    let to = no_comment(text, i, e);
-    if to == i {
+    let left = no_comment(text, i, e);
+    if left == i {
         return Ruling::LineComment;
     }
     Ruling::Token {
         kind: kind,
         from: i,
-        end: to,
-        payload: Payload::Part { from: i, to: to },
+        end: left,
+        payload: Payload::Part { from: i, to: left },
     }
 }

@@ -26,7 +26,7 @@ pub record ReadsOn (k : ℕ) : Type 0 where
   pub no-white : rule-of k ≡ 4 → ⊥
   pub no-line-end : rule-of k ≡ 5 → ⊥
 
--- n is the number of a rule that reads a choice whole, and reads it as a token, an error or a line's comment
+-- n is the number of a rule that gives a ruling: none of those that read on, or read a character, or pass, or expect nothing
 pub record Short (n : ℕ) : Type 0 where
   pub listed : n < 19
   pub short : Missing (keyed (15 ∷ 14 ∷ 13 ∷ 6 ∷ 5 ∷ 4 ∷ 3 ∷ 2 ∷ 0 ∷ [])) n

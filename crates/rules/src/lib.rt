@@ -63,7 +63,7 @@ ghost use Rattle.rules.specs.Acting.{Acts, ReadsOn, Short};
 // An unexpected character.
 const UNEXPECTED: u32 = 6;
 
-// The ruling on a choice that is read whole.
+// The ruling on a choice whose rule gives one. The last arm is the rule of operators: no other is left.
 fn ruled(text: &[u8], at: Place, choice: Choice, rule: u32) -> Ruling
     requires { ⌜ Chose (now text) at (choice .end) × Tabled choice × (rule ≡ rule-of (choice .place)) × Short rule ⌝ }
     ensures { λ r. ⌜ ((name f : Bytes) → length name ≤ 4096 → Rules (now (text .entry)) name at (choice .end) (does (now (text .entry)) name f rule (at .st) (choice .place) (choice .end) (choice .word)) r) ⌝ }

@@ -52,7 +52,7 @@ ruling-step s name f st e (Token k i to p) = spanned s st i to k (bytes-of s nam
 ruling-step s name f st e (Error n p) = lex-error s st n (bytes-of s name f p) (cur-pos s st) (pos-of s st e)
 ruling-step s name f st e LineComment = line-comment s [] st
 
--- what carrying it out asks for
+-- what carrying it out asks for, besides that the choice was made
 abbrev pub Fits : Bytes → Bytes → Place → Ruling → Type 0
 Fits s name at (Token k i to p) = Spans s name at i to p × Described s name p
 Fits s name at (Error n p) = Sized name p × Described s name p

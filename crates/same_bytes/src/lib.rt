@@ -1,7 +1,7 @@
 // Whether a lexeme is a word: the word as a slice, or as two, three or four bytes.
 //
-// Proved: each is the definition's `same` of the word and the lexeme. proofs/WordLaws.antt has laws of `same`, proofs/Prefix.antt those of
-// a text that begins with another.
+// Proved: each is the definition's `same` of the word and the lexeme. proofs/WordLaws.antt has laws of `same`,
+// proofs/Prefix.antt those of a text that begins with another.
 // Assumed: nothing.
 ghost use mathlib.Core.Path.{_≡_};
 ghost use mathlib.Core.List.{[], _∷_};

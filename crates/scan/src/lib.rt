@@ -5,7 +5,7 @@
 // that only ASCII passes goes by bytes, one over identifiers decodes where a byte isn't ASCII; both are the definition's
 // `star` over characters.
 // Assumed: nothing but what each function's `requires` says: a class file that `class_check` accepts where a class is
-// asked, the table of operator characters where one is used.
+// asked, the table of operator or of symbol characters where one is used.
 use ascii::is_op_char;
 use ascii::is_symbolchar;
 use chars::is_ident_char;

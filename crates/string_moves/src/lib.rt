@@ -1,8 +1,8 @@
 // What stands at an offset of a string literal.
 //
-// Proved: what is found at an offset is what the specification says (specs/Moves.antt), whose cases are those of the definition's
-// `string-turn`; it ends behind the offset and within the text, and an escape stands for fewer bytes than it has. How many bytes a
-// move adds to the literal, and where it ends, are what specs/Ends.antt says.
+// Proved: what is found at an offset is what the specification says (specs/Moves.antt), whose cases are those of the
+// definition's `string-turn`; it ends behind the offset and within the text, and an escape stands for fewer bytes than it
+// has. How many bytes a move adds to the literal, and where it ends, are what specs/Ends.antt says.
 // Assumed: nothing but what `string_move` requires: the class file is accepted.
 use blanks::star_anywhite;
 use definition::Match;

@@ -61,7 +61,8 @@ abbrev pub early-pair : ℕ → ℕ → Bool
 early-pair a b =
     if eqb a (ch "s") then eqb b (ch "e") else (if eqb a (ch "#") then between (ch "a") (ch "z") b else (if eqb a (ch "%") then eqb b (ch "s") else eqb a (ch "`")))
 
--- the two bytes that a keyword-operator word may begin with: only behind the six letters of ASCII that begin one the second byte counts
+-- No keyword-operator word begins with two bytes that fail this. Only behind the six letters of ASCII that begin one does the second byte
+-- count; all other pairs pass.
 abbrev pub kw-op-pair : ℕ → ℕ → Bool
 kw-op-pair a b =
     if eqb a (ch "m") then eqb b (ch "a") else

@@ -155,7 +155,7 @@ fn longest_early(text: &[u8], i: usize) -> Choice
     best
 }
 
-// The longest of the early literals at i. Few bytes begin one, so the table is built only where two bytes do.
+// The longest of the early literals at i. Few bytes begin one, so the table is built only where two bytes may.
 pub fn early_literal(text: &[u8], i: usize) -> Choice
     ensures { λ r. ⌜ r ≡ try-words i 1 (λ w. match-lit (now (text .entry)) w i) 0 early-literals (none-at i) ⌝ }
 {
@@ -208,8 +208,8 @@ pub fn kw_op_word(text: &[u8], i: usize) -> usize
     k
 }
 
-// Whether a keyword-operator word may begin with two bytes. Where the first is no such letter they pass: a semicolon is a word by
-// itself, and the words beyond ASCII are rare.
+// Whether a keyword-operator word may begin with two bytes: none does that fail. Where the first is no letter that begins one
+// they pass: a semicolon is a word by itself, and the words beyond ASCII are rare.
 fn kw_op_begins(a: u8, b: u8) -> bool
     ensures { λ r. ⌜ r ≡ kw-op-pair a b ⌝ }
 {
@@ -234,8 +234,8 @@ fn kw_op_begins(a: u8, b: u8) -> bool
     true
 }
 
-// A keyword-operator word at i with operator characters behind it. Many identifiers begin with a letter that such a word begins with, so
-// the table is built only where two bytes do.
+// A keyword-operator word at i with operator characters behind it. Many identifiers begin with a letter that such a word
+// begins with, so the table is built only where two bytes may begin one.
 pub fn kw_op(text: &[u8], table: &[bool; 128], i: usize) -> Choice
     requires { ⌜ now table ≡ ascii-table op-char-cps ⌝ }
     ensures { λ r. ⌜ r ≡ try-words i 12 (λ w. match-lit (now (text .entry)) w i then plus is-op-char (now (text .entry))) 0 kw-op-rules (none-at i) ⌝ }
