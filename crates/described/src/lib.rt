@@ -7,10 +7,10 @@
 pub mod places; // places.rt: where a reader stands after it reads on
 pub mod tokens; // tokens.rt: tokens and errors as readers answer them
 
+use decimals::show_length;
 use definition::Item;
 use definition::State;
 use entries::text_length;
-use numerals::show_length;
 use positions::Cache;
 ghost use mathlib.Core.Path.{_≡_};
 ghost use Prim.Native.Nat.{_<_, _-_};

@@ -4,7 +4,6 @@ use mathlib.Core.Bool.{Bool, true, false}
 use lib.Dec.{eqb}
 use lib.ListN.{length}
 use Rattle.definition.specs.Basics.{Bytes, ch, if_then_else_}
-use Rattle.definition.specs.Utf8.{encode}
 use Rattle.definition.specs.Escapes.{code-at, hex-value}
 
 -- digits to read from k on: so few that their value is small
@@ -29,8 +28,3 @@ escaped s i c =
     if eqb c (ch "u") then hex-value s (i + 2) 4 else
     if eqb c (ch "x") then hex-value s (i + 2) 2 else
     code-at s (i + 1)
-
--- a number that has bytes in UTF-8, and a buffer that they fit
-pub record Encodes (c : ℕ) (out : Bytes) : Type 0 where
-  pub small : c ≤ 0x10FFFF
-  pub room : length (encode c) ≤ length out

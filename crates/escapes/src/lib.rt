@@ -1,18 +1,15 @@
-// The characters that escapes denote, and the bytes of a character.
-// Proved: each public function answers what the definition's `unescape`, `is-surrogate` or `encode` says; `unescape` at any
-// offset of any bytes. A writer changes nothing behind the bytes that it writes.
-// Assumed: of `encode_into` that the number is at most 10FFFF and that its bytes fit.
+// The characters that escapes denote, and surrogates.
+// Proved: each public function answers what the definition's `unescape` or `is-surrogate` says; `unescape` at any offset of
+// any bytes.
+// Assumed: nothing.
 use characters::byte;
 use definition::Octet;
 use definition::Sequence;
 use numerals::digit_value;
 use text::sequence_at;
 ghost use mathlib.Core.Path.{_≡_};
-ghost use lib.ListN.{length};
-ghost use Rattle.definition.specs.Utf8.{encode};
 ghost use Rattle.definition.specs.Escapes.{code-at, hex-value, unescape, is-surrogate};
-ghost use Rattle.lemmas.specs.Over.{Wrote};
-ghost use Rattle.escapes.specs.Contracts.{Digits, Behind, escaped, Encodes};
+ghost use Rattle.escapes.specs.Contracts.{Digits, Behind, escaped};
 
 // The code point at i, 0 where no character stands.
 fn code_at(text: &[u8], i: usize) -> u32
@@ -85,47 +82,4 @@ pub fn is_surrogate(c: u32) -> bool
         return false;
     }
     c <= 0xDFFF
-}
-
-// How many bytes a character has in UTF-8.
-pub fn encode_length(c: u32) -> usize
-    ensures { λ r. ⌜ r ≡ length (encode c) ⌝ }
-{
-    if c <= 0x7F {
-        return 1;
-    }
-    if c <= 0x7FF {
-        return 2;
-    }
-    if c <= 0xFFFF {
-        return 3;
-    }
-    4
-}
-
-// Writes the bytes of a character to the front of the buffer, and says how many they are.
-pub fn encode_into(c: u32, out: &mut [u8]) -> usize
-    requires { ⌜ Encodes c (now out) ⌝ }
-    ensures { λ r. ⌜ Wrote (encode c) (now (out .entry)) (now (out .exit)) r ⌝ }
-{
-    if c < 0x80 {
-        out[0] = c as u8;
-        return 1;
-    }
-    if c < 0x800 {
-        out[0] = (0xC0 + c / 64) as u8;
-        out[1] = (0x80 + c % 64) as u8;
-        return 2;
-    }
-    if c < 0x10000 {
-        out[0] = (0xE0 + c / 4096) as u8;
-        out[1] = (0x80 + c / 64 % 64) as u8;
-        out[2] = (0x80 + c % 64) as u8;
-        return 3;
-    }
-    out[0] = (0xF0 + c / 262144) as u8;
-    out[1] = (0x80 + c / 4096 % 64) as u8;
-    out[2] = (0x80 + c / 64 % 64) as u8;
-    out[3] = (0x80 + c % 64) as u8;
-    4
 }

@@ -22,7 +22,7 @@ use Rattle.lemmas.proofs.Cases.{by-order, both}
 use Rattle.lemmas.proofs.Over.{length-over, stored}
 use Rattle.lemmas.proofs.Copies.{write-on}
 use Rattle.lemmas.proofs.Tails.{behind}
-use Rattle.numerals.proofs.Digits.{show-last, show-more}
+use Rattle.decimals.proofs.Digits.{show-last, show-more}
 use Rattle.lines.specs.Line.{letter, names, name-of, shown, numbers, head, line, lines}
 use Rattle.lines.specs.Writing.{line-most}
 

@@ -4,8 +4,8 @@
 // for each record.
 mod kind_names; // kind_names.rt: the kinds' names by number
 
+use decimals::show_into;
 use kind_names::name_into;
-use numerals::show_into;
 ghost use mathlib.Core.Path.{_≡_};
 ghost use mathlib.Core.List.{_∷_, map};
 ghost use Prim.Native.Nat.{_≤_};

@@ -9,7 +9,7 @@ use Rattle.definition.specs.Basics.{Bytes}
 use Rattle.definition.specs.Text.{lexeme}
 use Rattle.definition.specs.Utf8.{encode}
 use Rattle.lemmas.specs.Over.{over, Wrote}
-use Rattle.escapes.specs.Contracts.{Encodes}
+use Rattle.encoding.specs.Contracts.{Encodes}
 use Rattle.string_moves.specs.declared.Move.{Move}
 use Rattle.string_moves.specs.Ends.{Past, Fewer, adds}
 use Rattle.literals.specs.Contracts.{Copies}

@@ -3,7 +3,7 @@
 // Proved: what is written is the definition's literal, and nothing behind it is changed.
 // Assumed: nothing but what the `requires` says: the class file is accepted, the length is the literal's, and it fits.
 use described::span;
-use escapes::encode_into;
+use encoding::encode_into;
 use string_moves::Move;
 use string_moves::end_of;
 use string_moves::string_move;

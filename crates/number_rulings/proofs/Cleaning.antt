@@ -13,8 +13,8 @@ use Rattle.definition.specs.Kinds.{kind}
 use Rattle.definition.specs.Numbers.{clean-number, int-of-string}
 use Rattle.definition.specs.Token.{number, uint8, bad-number}
 use Rattle.definition.specs.declared.State.{State}
-use Rattle.numerals.specs.Contracts.{Cleaned}
-use Rattle.numerals.specs.declared.Part.{Part as Span}
+use Rattle.cleaning.specs.Contracts.{Cleaned}
+use Rattle.cleaning.specs.declared.Part.{Part as Span}
 use Rattle.described.specs.Described.{Describes}
 use Rattle.described.specs.declared.Place.{Place}
 use Rattle.described.specs.declared.Payload.the-variants.{Part}

@@ -4,7 +4,7 @@ use mathlib.Core.Path.{_≡_}
 use Rattle.definition.specs.Basics.{Bytes}
 use Rattle.definition.specs.Text.{lexeme}
 use Rattle.definition.specs.Numbers.{clean-number}
-use Rattle.numerals.specs.declared.Part.{Part}
+use Rattle.cleaning.specs.declared.Part.{Part}
 
 -- the part that is left of the number between i and e
 pub record CleanedAt (s : Bytes) (i e : ℕ) (part : Part) : Type 0 where

@@ -4,11 +4,11 @@
 // payload and state. No payload is copied: each is a part of the text.
 // Assumed: nothing but what each function's `requires` says: a reader stands in a sound state of a legal text, and the
 // choice ends behind it (`Chose`; `bad_number`, which isn't lent the text, promises what it does where that holds).
+use cleaning::Part;
+use cleaning::clean_number;
 use described::Payload;
 use described::Place;
-use numerals::Part;
 use numerals::above_255;
-use numerals::clean_number;
 use rulings::Ruling;
 ghost use Prim.Native.Nat.{_≤_};
 ghost use lib.ListN.{length};

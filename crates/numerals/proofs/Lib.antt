@@ -1,3 +1,1 @@
-pub mod Stripping
 pub mod Values
-pub mod Digits

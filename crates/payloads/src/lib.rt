@@ -3,12 +3,12 @@
 // Proved: exactly the bytes that the description stands for are written, and the rest of the buffer keeps what it held.
 // Assumed: nothing but what each function's `requires` says: the description is right for the text, and the buffer has
 // room for its bytes.
+use decimals::show_into;
 use described::Payload;
 use described::span;
 use entries::text_into;
 use literals::copy_part;
 use literals::write_literal;
-use numerals::show_into;
 use trim::write_trimmed;
 ghost use mathlib.Core.Path.{_≡_};
 ghost use mathlib.Core.List.{_∷_, _++_};

@@ -17,7 +17,7 @@ use Rattle.definition.specs.Tables.{Entry, cps, find}
 use Rattle.definition.specs.Numbers.{strips, strip-left, behind, strip-right, clean-number, show}
 use Rattle.definition.specs.Trim.{onto-first, split-lines, join-lines, trim-width, maybe-trim-lines}
 use Rattle.lemmas.proofs.Cases.{by-test, by-if, by-order, both}
-use Rattle.numerals.proofs.Digits.{show-last, show-more}
+use Rattle.decimals.proofs.Digits.{show-last, show-more}
 use Rattle.progress.proofs.Rules.{texts-small}
 
 -- ---- parts of the text

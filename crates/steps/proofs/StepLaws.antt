@@ -5,7 +5,7 @@ use mathlib.Core.Path.{_≡_, refl, sym, subst, _∙_}
 use mathlib.Core.Bool.{Bool}
 use mathlib.Core.List.{List, []}
 use lib.ListN.{length}
-use borrow.Author.Tests.{le-leb, lt-leb, eq-eqb, ne-eqb}
+use borrow.Author.Tests.{le-leb, eq-eqb, ne-eqb}
 use Rattle.definition.specs.Basics.{Bytes}
 use Rattle.definition.specs.Kinds.{kind}
 use Rattle.definition.specs.Select.{select}
@@ -16,30 +16,25 @@ use Rattle.definition.specs.Token.{act, token-turn, next-token, step}
 use Rattle.definition.specs.declared.Choice.{Choice}
 use Rattle.definition.specs.declared.State.{State}
 use Rattle.definition.specs.declared.Extra.the-variants.{NoExtra}
-use Rattle.lemmas.proofs.Loops.{Leads, Any, leads-map, leads-both}
-use Rattle.state.specs.Sound.{Stands}
 use Rattle.positions.specs.Columns.{located}
 use Rattle.positions.specs.declared.Located.{Located}
-use Rattle.progress.proofs.Walks.{rest}
-use Rattle.progress.proofs.Tokens.{token-falls, token-unroll}
-use Rattle.soundness.proofs.Steps.{token-turn-stands}
+use Rattle.progress.proofs.Tokens.{token-unroll}
 use Rattle.described.specs.Described.{Describes, Known-at, Reads, Turns}
 use Rattle.described.specs.Standing.{Standing}
 use Rattle.described.specs.Places.{moved, next-line}
 use Rattle.described.specs.declared.Place.{Place}
 use Rattle.described.specs.declared.Payload.the-variants.{Part}
 use Rattle.described.specs.declared.Read.{Read}
-use Rattle.described.specs.declared.Turned.{Turned}
 use Rattle.described.specs.declared.Turned.the-variants.{Done, Again}
 use Rattle.described.proofs.Standing.{known-asked, known-kept}
-use Rattle.described.proofs.Turning.{turned-done, turned-again}
+use Rattle.described.proofs.Turning.{turned-done}
 use Rattle.line_comments.specs.Contracts.{ReadsAny}
 use Rattle.place_rules.specs.Ruling.{rule-of}
 use Rattle.rules.specs.Acting.{Acts}
 use Rattle.rules.proofs.RuleLaws.{chose, by-rule, moved-turns, line-turns}
+use Rattle.white_space.specs.White.{Between, Behind}
+use Rattle.white_space.proofs.TurnLaws.{turn-acts, turn-goes}
 use Rattle.steps.specs.Ready.{eof, ReadsEach, Ready}
-use Rattle.steps.specs.White.{Between, Passes, Behind}
-use Rattle.steps.specs.declared.white.Passed.the-variants.{On}
 
 -- ---- the text's end
 
@@ -55,15 +50,10 @@ eof-reads {s} {name} {at} {here} {next} {r} h p q build f =
 
 -- ---- a turn
 
-module _ (s name f : Bytes) (st : State) where
-  -- the text's end, and a choice before it
-  pub turn-ends : (r : Read) → length s ≤ st .offset → Reads s name f (eof s st) r → Turns s name f (token-turn s name f st) (Done r)
-  unfolding token-turn
-  turn-ends r h d = rw (token-turn, le-leb _ _ h) d
-
-  pub turn-acts : (c : Choice) (t : Turned) → st .offset < length s → c ≡ select s f (st .offset) → Turns s name f (act s name f st c) t → Turns s name f (token-turn s name f st) t
-  unfolding token-turn
-  turn-acts c t h q d = rw (token-turn, lt-leb _ _ h, ← q) d
+-- the text's end
+pub turn-ends : (s name f : Bytes) (st : State) (r : Read) → length s ≤ st .offset → Reads s name f (eof s st) r → Turns s name f (token-turn s name f st) (Done r)
+unfolding token-turn
+turn-ends s name f st r h d = rw (token-turn, le-leb _ _ h) d
 
 -- ---- a step
 
@@ -86,32 +76,6 @@ pub record Reading (s name f : Bytes) (ops symbols : List Bool) (first here : Pl
 
 pub reading-starts : {s name f : Bytes} {ops symbols : List Bool} {at : Place} → Ready s name f ops symbols at → Reading s name f ops symbols at at
 reading-starts h = record { ready = h; same = refl }
-
--- a turn stands where it goes on, and has read something
-turn-leads : (s name f : Bytes) (st : State) → Stands s st → st .mode ≡ 0
-    → Leads (λ b. (Stands s b × (b .mode ≡ 0)) × (rest s (b .offset) < rest s (st .offset))) Any (token-turn s name f st)
-turn-leads s name f st h m =
-    leads-both (λ b. Stands s b × (b .mode ≡ 0)) (λ b. rest s (b .offset) < rest s (st .offset)) (λ t. Stands s (t .next)) Any
-    (token-turn s name f st) (token-turn-stands s name f st h m)
-    (leads-map (λ b l. l .1) (λ t _. tt) (token-turn s name f st) (token-falls s name f .at st tt))
-
--- a turn that goes on stands where it does, with less of the text before it, and reads the same from there
-pub record Goes (s name f : Bytes) (st : State) (p : Place) : Type 0 where
-  pub standing : Standing s (p .st) (p .known)
-  pub between : p .st .mode ≡ 0
-  pub same : next-token s name f (p .st) ≡ next-token s name f st
-  pub less : length s - p .st .offset < length s - st .offset
-
-pub turn-goes : (s name f : Bytes) (st : State) (p : Place) → Stands s st → st .mode ≡ 0 → Turns s name f (token-turn s name f st) (Again p) → Goes s name f st p
-turn-goes s name f st p h m t =
-    let g = turned-again s name f (λ b. (Stands s b × (b .mode ≡ 0)) × (rest s (b .offset) < rest s (st .offset))) Any
-    (token-turn s name f st) (next-token s name f) p (turn-leads s name f st h m) t in
-    record {
-      standing = record { stands = g .holds .0 .0; cached = g .known };
-      between = g .holds .0 .1;
-      same = sym (g .same) ∙ sym (token-unroll s name f st);
-      less = g .holds .1;
-    }
 
 module _ {s name f : Bytes} {ops symbols : List Bool} {first here : Place} (k : Reading s name f ops symbols first here) where
   -- what a turn has read is the whole
@@ -172,20 +136,3 @@ reading-behind {name = name} k b = record {
   ready = record { standing = b .ready .standing; between = b .ready .between; lent = k .ready .lent; named = k .ready .named };
   same = b .same name ∙ k .same;
 }
-
-pub behind-starts : {s f : Bytes} {at : Place} → Between s f at → Behind s f at at
-behind-starts h = record { ready = h; same = λ name. refl; less = omega arith }
-
--- what is passed leads on behind it
-pub behind-on : {s f : Bytes} {first here next : Place} → Behind s f first here → Passes s f (here .st) (On next)
-    → Behind s f first next × (length s - next .st .offset < length s - here .st .offset)
-behind-on {s} {f} {first} {here} {next} b p =
-    let goes : (name : Bytes) → Goes s name f (here .st) next = λ name. turn-goes s name f (here .st) next (b .ready .standing .stands) (b .ready .between) (p name) in
-    let g = goes [] in (
-      record {
-        ready = record { standing = g .standing; between = g .between; accepted = b .ready .accepted };
-        same = λ name. goes name .same ∙ b .same name;
-        less = omega (arith, g .less, b .less);
-      },
-      g .less,
-    )

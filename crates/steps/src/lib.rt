@@ -1,13 +1,10 @@
 // A step of the lexer: the next item from a state, with the state behind it.
 //
 // Proved: `step` reads what the definition's `step` gives, and `next_token` what its `next-token` gives: item, payload and
-// state, and a column that is known behind it. The laws behind it (in proofs/): at white space and line ends of ASCII a turn
-// goes on behind them (WhiteLaws), so that they can be passed before it.
+// state, and a column that is known behind it. White space and line ends of ASCII are passed before a turn (crate
+// `white_space`).
 // Assumed: nothing but what each function's `requires` says: a reader stands in a sound state of a legal text and hasn't
 // ended, the class file is accepted, the tables of operator and of symbol characters are lent, and the name is short enough.
-pub mod white; // white.rt: white space and line ends before a turn
-
-use crate::white::behind_white;
 use comments::comment;
 use definition::Extra;
 use described::Payload;
@@ -23,6 +20,7 @@ use place_rules::table::rule_of;
 use positions::pos_of;
 use rules::act;
 use select::select;
+use white_space::behind_white;
 ghost use Rattle.definition.specs.Token.{next-token, step};
 ghost use Rattle.described.specs.Described.{Reads};
 ghost use Rattle.described.specs.Standing.{Standing};

@@ -7,7 +7,7 @@
 use blanks::star_anywhite;
 use definition::Match;
 use described::span;
-use escapes::encode_length;
+use encoding::encode_length;
 use escapes::is_surrogate;
 use escapes::unescape;
 use matchers::match_newline;

@@ -17,7 +17,7 @@ use Rattle.rules.proofs.act.Reads as act-reads
 use Rattle.place_rules.proofs.table.rule_of.Reads as rule-of-reads
 use Rattle.select.proofs.select.Reads as select-reads
 use Rattle.steps.proofs.end_of_text.Reads as end-of-text-reads
-use Rattle.steps.proofs.white.behind_white.Reads as behind-white-reads
+use Rattle.white_space.proofs.behind_white.Reads as behind-white-reads
 
 abbrev Inv-loop : tie.InvT-loop
 Inv-loop text name classes ops symbols from₀ from = Reading text name classes ops symbols from₀ from

@@ -1,0 +1,75 @@
+-- A turn of `next-token` that goes on, and where a reader stands behind white space. Rests on the laws of progress and of sound states.
+use Prim.Native.Nat.{_-_, _<_}
+use native.Mathlib.Omega.{arith}
+use mathlib.Core.Path.{_≡_, refl, sym, _∙_}
+use mathlib.Core.List.{[]}
+use lib.ListN.{length}
+use borrow.Author.Tests.{lt-leb}
+use Rattle.definition.specs.Basics.{Bytes}
+use Rattle.definition.specs.Select.{select}
+use Rattle.definition.specs.Token.{act, token-turn, next-token}
+use Rattle.definition.specs.declared.Choice.{Choice}
+use Rattle.definition.specs.declared.State.{State}
+use Rattle.lemmas.proofs.Loops.{Leads, Any, leads-map, leads-both}
+use Rattle.state.specs.Sound.{Stands}
+use Rattle.progress.proofs.Walks.{rest}
+use Rattle.progress.proofs.Tokens.{token-falls, token-unroll}
+use Rattle.soundness.proofs.Steps.{token-turn-stands}
+use Rattle.described.specs.Described.{Turns}
+use Rattle.described.specs.Standing.{Standing}
+use Rattle.described.specs.declared.Place.{Place}
+use Rattle.described.specs.declared.Turned.{Turned}
+use Rattle.described.specs.declared.Turned.the-variants.{Again}
+use Rattle.described.proofs.Turning.{turned-again}
+use Rattle.white_space.specs.White.{Between, Passes, Behind}
+use Rattle.white_space.specs.declared.Passed.the-variants.{On}
+
+-- what is done with a choice before the text's end
+pub turn-acts : (s name f : Bytes) (st : State) (c : Choice) (t : Turned) → st .offset < length s → c ≡ select s f (st .offset) → Turns s name f (act s name f st c) t → Turns s name f (token-turn s name f st) t
+unfolding token-turn
+turn-acts s name f st c t h q d = rw (token-turn, lt-leb _ _ h, ← q) d
+
+-- a turn stands where it goes on, and has read something
+turn-leads : (s name f : Bytes) (st : State) → Stands s st → st .mode ≡ 0
+    → Leads (λ b. (Stands s b × (b .mode ≡ 0)) × (rest s (b .offset) < rest s (st .offset))) Any (token-turn s name f st)
+turn-leads s name f st h m =
+    leads-both (λ b. Stands s b × (b .mode ≡ 0)) (λ b. rest s (b .offset) < rest s (st .offset)) (λ t. Stands s (t .next)) Any
+    (token-turn s name f st) (token-turn-stands s name f st h m)
+    (leads-map (λ b l. l .1) (λ t _. tt) (token-turn s name f st) (token-falls s name f .at st tt))
+
+-- a turn that goes on stands where it does, with less of the text before it, and reads the same from there
+pub record Goes (s name f : Bytes) (st : State) (p : Place) : Type 0 where
+  pub standing : Standing s (p .st) (p .known)
+  pub between : p .st .mode ≡ 0
+  pub same : next-token s name f (p .st) ≡ next-token s name f st
+  pub less : length s - p .st .offset < length s - st .offset
+
+pub turn-goes : (s name f : Bytes) (st : State) (p : Place) → Stands s st → st .mode ≡ 0 → Turns s name f (token-turn s name f st) (Again p) → Goes s name f st p
+turn-goes s name f st p h m t =
+    let g = turned-again s name f (λ b. (Stands s b × (b .mode ≡ 0)) × (rest s (b .offset) < rest s (st .offset))) Any
+    (token-turn s name f st) (next-token s name f) p (turn-leads s name f st h m) t in
+    record {
+      standing = record { stands = g .holds .0 .0; cached = g .known };
+      between = g .holds .0 .1;
+      same = sym (g .same) ∙ sym (token-unroll s name f st);
+      less = g .holds .1;
+    }
+
+-- ---- white space before a turn
+
+pub behind-starts : {s f : Bytes} {at : Place} → Between s f at → Behind s f at at
+behind-starts h = record { ready = h; same = λ name. refl; less = omega arith }
+
+-- what is passed leads on behind it
+pub behind-on : {s f : Bytes} {first here next : Place} → Behind s f first here → Passes s f (here .st) (On next)
+    → Behind s f first next × (length s - next .st .offset < length s - here .st .offset)
+behind-on {s} {f} {first} {here} {next} b p =
+    let goes : (name : Bytes) → Goes s name f (here .st) next = λ name. turn-goes s name f (here .st) next (b .ready .standing .stands) (b .ready .between) (p name) in
+    let g = goes [] in (
+      record {
+        ready = record { standing = g .standing; between = g .between; accepted = b .ready .accepted };
+        same = λ name. goes name .same ∙ b .same name;
+        less = omega (arith, g .less, b .less);
+      },
+      g .less,
+    )

@@ -1,0 +1,55 @@
+// White space and line ends of ASCII, which are passed before a turn is taken: nearly half of all turns would read nothing
+// else, and a turn costs far more than a byte.
+//
+// Proved: from behind what is passed the definition's `next-token` gives the same item, and the reader stands there with a
+// column that is known.
+// Assumed: nothing but what each function's `requires` says: a reader stands in a sound state of a legal text, between
+// comments, and the class file is accepted.
+use blanks::blank_at;
+use blanks::star_anywhite;
+use definition::Match;
+use described::Place;
+use described::places::moved;
+use described::places::next_line;
+use matchers::match_newline;
+use peeks::byte_either;
+ghost use Rattle.white_space.specs.White.{Between, Passes, Behind};
+
+// What is passed at a place: a run of white space or a line end, with the place behind it, or nothing.
+enum Passed {
+    On(Place),
+    Nothing,
+}
+
+// One run of white space or one line end.
+fn past_white(text: &[u8], classes: &[u8], at: Place) -> Passed
+    requires { ⌜ Between (now text) (now classes) at ⌝ }
+    ensures { λ r. ⌜ Passes (now (text .entry)) (now (classes .entry)) (at .st) r ⌝ }
+{
+    let st = at.st;
+    let i = st.offset as usize;
+    if blank_at(text, i) {
+        return Passed::On(moved(at, star_anywhite(text, classes, i + 1)));
+    }
+    if !byte_either(text, i, b'\n', b'\r') {
+        return Passed::Nothing;
+    }
+    let Match::To(e) = match_newline(text, i) else {
+        return Passed::Nothing;
+    };
+    Passed::On(next_line(at, e))
+}
+
+// Where a reader stands behind white space and line ends that begin with ASCII.
+pub fn behind_white(text: &[u8], classes: &[u8], at: Place) -> Place
+    requires { ⌜ Between (now text) (now classes) at ⌝ }
+    ensures { λ r. ⌜ Behind (now (text .entry)) (now (classes .entry)) at r ⌝ }
+{
+    let mut here = at;
+    loop {
+        let Passed::On(next) = past_white(text, classes, here) else {
+            return here;
+        };
+        here = next;
+    }
+}
