@@ -4,11 +4,11 @@ use Prim.Native.Nat.{ℕ, zero, suc, _+_, _-_, _≤_, _<_}
 use native.Mathlib.Omega.{arith}
 use mathlib.Core.Path.{_≡_, refl, sym, ap, subst, _∙_}
 use mathlib.Core.Bool.{Bool, true, false, not, _&&_, _||_, false≢true}
-use mathlib.Core.List.{List, [], _∷_, map}
+use mathlib.Core.List.{List, [], _∷_, _++_, map}
 use lib.Dec.{eqb, ltb}
 use lib.ListN.{length, getD, List·getD-map}
 use borrow.Author.Tests.{eqb-true, eqb-false, eq-eqb, ne-eqb, ltb-true}
-use Rattle.definition.specs.Basics.{Bytes}
+use Rattle.definition.specs.Basics.{Bytes, done, mem-cp}
 use Rattle.definition.specs.Chars.{count-up}
 use Rattle.definition.specs.State.{advance, new-line}
 use Rattle.definition.specs.Token.{Token-turn, Rule, rules, any, act}
@@ -16,12 +16,10 @@ use Rattle.definition.specs.declared.Choice.{Choice}
 use Rattle.definition.specs.declared.State.{State}
 use Rattle.lemmas.proofs.Cases.{by-test, both, either}
 use Rattle.progress.proofs.Choices.{Fits, select-fits}
-use Rattle.described.specs.Described.{Known-at, Reads, Turns}
+use Rattle.described.specs.Described.{Known-at, Turns}
 use Rattle.described.specs.Places.{moved, next-line}
 use Rattle.described.specs.declared.Place.{Place}
-use Rattle.described.specs.declared.Read.{Read}
 use Rattle.described.specs.declared.Turned.{Turned}
-use Rattle.described.specs.declared.Turned.the-variants.{Done}
 use Rattle.described.proofs.Standing.{known-kept, known-line}
 use Rattle.soundness.proofs.Moving.{stands-within}
 use Rattle.rulings.specs.Rulings.{Chose, Rules, ruling-step}
@@ -31,7 +29,7 @@ use Rattle.place_rules.specs.Keys.{Missing, keyed}
 use Rattle.place_rules.specs.Plain.{place-kinds}
 use Rattle.place_rules.specs.Ruling.{rule-numbers, rule-of, does}
 use Rattle.place_rules.specs.Tabled.{table-size, Tabled}
-use Rattle.rules.specs.Acting.{Acts, ReadsOn, Short}
+use Rattle.rules.specs.Acting.{Acts, ReadsOn, Short, Long}
 use Rattle.rules.proofs.Tabling.{select-tabled}
 
 -- what counts up from n has n + k at k
@@ -77,13 +75,27 @@ below-at m [] t z k = z
 below-at m (x ∷ l) t z zero = ltb-true x m (both (ltb x m) (below m l) t .0)
 below-at m (x ∷ l) t z (suc k) = below-at m l (both (ltb x m) (below m l) t .1) z k
 
--- what is none of the arms that read for themselves gives a ruling
-pub short-rule : {n k : ℕ} → n ≡ rule-of k → ReadsOn k → Missing (keyed (0 ∷ 15 ∷ 14 ∷ 13 ∷ 6 ∷ 3 ∷ 2 ∷ [])) n → Short n
+-- the number of a rule is one of the rules' numbers
+pub rule-small : (k : ℕ) → rule-of k < 19
 unfolding rule-numbers
-short-rule {n} {k} q o (((((((u, m2), m3), m6), m13), m14), m15), m0) = record {
-  listed = subst (λ (m : ℕ). m < 19) (sym q) (below-at 19 rule-numbers refl (omega arith) k);
-  short = (((((((((tt, m0), m2), m3), λ e. o .no-white (sym q ∙ e)), λ e. o .no-line-end (sym q ∙ e)), m6), m13), m14), m15);
-}
+rule-small k = below-at 19 rule-numbers refl (omega arith) k
+
+-- what is one of some numbers and none of those before the last is the last
+one-or : {P : Type 0} (b rest : Bool) → elim b [ true ↦ true | false ↦ rest ] ≡ true → (b ≡ true → P) → (rest ≡ true → P) → P
+one-or true rest t f g = f refl
+one-or false rest t f g = g t
+
+only-last : (n last : ℕ) (ks : List ℕ) → mem-cp n (ks ++ (last ∷ [])) ≡ true → Missing (keyed ks) n → n ≡ last
+unfolding mem-cp
+only-last n last [] t m = one-or (eqb last n) false t (λ e. sym (eqb-true last n e)) (λ e. absurd (false≢true e))
+only-last n last (k ∷ ks) t m =
+    one-or (eqb k n) (mem-cp n (ks ++ (last ∷ []))) t (λ e. absurd (m .1 (sym (eqb-true k n e)))) (λ e. only-last n last ks e (m .0))
+
+-- so a rule that gives no ruling, passes nothing and is none of the arms that read for themselves is that of no place
+pub no-rule : {n k : ℕ} → n ≡ rule-of k → ReadsOn k → Long (rule-of k) → Missing (keyed (15 ∷ 14 ∷ 13 ∷ 6 ∷ 3 ∷ 2 ∷ [])) n → n ≡ 0
+no-rule {n} {k} q o l ((((((u, m2), m3), m6), m13), m14), m15) =
+    only-last n 0 (15 ∷ 14 ∷ 13 ∷ 6 ∷ 5 ∷ 4 ∷ 3 ∷ 2 ∷ []) (subst Long (sym q) l)
+    ((((((((u, m2), m3), λ e. o .no-white (sym q ∙ e)), λ e. o .no-line-end (sym q ∙ e)), m6), m13), m14), m15)
 
 -- a number that is none of those below k is k or more
 abbrev down : ℕ → List ℕ
@@ -137,12 +149,11 @@ module _ {s name f : Bytes} {at : Place} {c : Choice} (h : Acts s name f at c) w
   pub chose-short : {n : ℕ} → n ≡ rule-of (c .place) → Short n → Chose s at (c .end)
   chose-short {n} q o = chose q refl (ne-eqb n 0 (o .short .0 .0 .0 .0 .0 .0 .0 .0 .1))
 
-  -- a ruling that is carried out
-  pub carried-out : {n : ℕ} {x : Ruling} {r : Read} → n ≡ rule-of (c .place)
-      → ((name f : Bytes) → length name ≤ 4096 → Rules s name at (c .end) (does s name f n (at .st) (c .place) (c .end) (c .word)) x)
-      → ((f : Bytes) → Reads s name f (ruling-step s name f (at .st) (c .end) x) r) → Turns s name f (act s name f (at .st) c) (Done r)
-  carried-out {n} {x} {r} q ruled read =
-      by-rule q refl (Done r) (subst (λ (t : Token-turn). Turns s name f t (Done r)) (sym (ruled name f (h .named) .is f)) (read f))
+  -- the step that a ruling stands for is what is done
+  pub ruled-acts : {n : ℕ} {x : Ruling} → n ≡ rule-of (c .place)
+      → Rules s name at (c .end) (does s name f n (at .st) (c .place) (c .end) (c .word)) x → act s name f (at .st) c ≡ done (ruling-step s name f (at .st) (c .end) x)
+  ruled-acts {n} {x} q ruled =
+      act-is s name f (at .st) c (tabled .place) ∙ ap (λ (m : ℕ). does s name f m (at .st) (c .place) (c .end) (c .word)) (sym q) ∙ ruled .is f
 
 -- ---- words of keyword operators
 

@@ -2,9 +2,10 @@
 -- stands, c the choice.
 use Prim.Native.Nat.{ℕ, _≤_, _<_}
 use mathlib.Core.Path.{_≡_}
-use mathlib.Core.List.{[], _∷_}
+use mathlib.Core.Bool.{Bool, true, false}
+use mathlib.Core.List.{List, [], _∷_}
 use lib.ListN.{length}
-use Rattle.definition.specs.Basics.{Bytes}
+use Rattle.definition.specs.Basics.{Bytes, mem-cp}
 use Rattle.definition.specs.ClassFile.{class-check}
 use Rattle.definition.specs.Select.{select}
 use Rattle.definition.specs.declared.Choice.{Choice}
@@ -26,7 +27,20 @@ pub record ReadsOn (k : ℕ) : Type 0 where
   pub no-white : rule-of k ≡ 4 → ⊥
   pub no-line-end : rule-of k ≡ 5 → ⊥
 
--- n is the number of a rule that gives a ruling: none of those that read on, or read a character, or pass, or expect nothing
+-- the numbers of the rules that give no ruling: those that read on, or read a character, or pass, or expect nothing
+abbrev pub longs : List ℕ
+longs = 15 ∷ 14 ∷ 13 ∷ 6 ∷ 5 ∷ 4 ∷ 3 ∷ 2 ∷ 0 ∷ []
+
+-- n is the number of a rule that gives a ruling
 pub record Short (n : ℕ) : Type 0 where
   pub listed : n < 19
-  pub short : Missing (keyed (15 ∷ 14 ∷ 13 ∷ 6 ∷ 5 ∷ 4 ∷ 3 ∷ 2 ∷ 0 ∷ [])) n
+  pub short : Missing (keyed longs) n
+
+-- n is the number of a rule that gives none
+abbrev pub Long : ℕ → Type 0
+Long n = mem-cp n longs ≡ true
+
+-- which of the two a rule is
+abbrev pub Sorts : ℕ → Bool → Type 0
+Sorts n true = Short n
+Sorts n false = Long n

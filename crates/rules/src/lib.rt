@@ -1,19 +1,19 @@
 // What is done with a choice: the definition's rules, but for those of white space and line ends, which read nothing, and what
-// happens where none of the places was chosen.
+// happens where none of the places was chosen. Most rules give a ruling (`ruled`), which is carried out where it is known
+// whether the token fits (crates `tokens` and `finishes`); those that read on from behind the choice, and characters, read
+// for themselves (`act`).
 //
-// Proved: `act` does what the definition's `act` does with the choice that `select` makes: it reads an item, its payload and
-// the state behind it. The law behind it (in proofs/): the word of a choice is one of its place's table (Tabling). Most
-// rules give a ruling, which is carried out in one place; those that read on from behind the choice, and characters, read
-// for themselves.
-// Assumed: nothing but what `act`'s `requires` says: a reader stands in a sound state of a legal text, between comments, the
-// choice is `select`'s, and its rule is neither that of white space nor that of a line end. Those two read nothing; who asks
-// for a choice passes them (crate `steps`), so that an item is handed on as it was made.
+// Proved: a ruling stands for what the definition's rule gives, and `act` does what the definition's `act` does with the
+// choice that `select` makes: it reads an item, its payload and the state behind it. The law behind it (in proofs/): the
+// word of a choice is one of its place's table (Tabling).
+// Assumed: nothing but what each function's `requires` says: a reader stands in a sound state of a legal text, between
+// comments, the choice is `select`'s, and its rule is neither that of white space nor that of a line end. Those two read
+// nothing; who asks for a choice passes them (crate `sights`).
 use definition::Choice;
 use described::Place;
 use described::Read;
 use described::tokens::error_here;
 use finishes::char_lit;
-use finishes::finish;
 use number_rulings::bad_number;
 use number_rulings::number;
 use number_rulings::uint8;
@@ -33,10 +33,12 @@ use place_rules::table::KEYWORD_OPERATOR;
 use place_rules::table::LANGUAGE;
 use place_rules::table::LINE_COMMENT;
 use place_rules::table::LITERAL;
+use place_rules::table::LINE_END;
 use place_rules::table::NO_RULE;
 use place_rules::table::NUMBER;
 use place_rules::table::PLAIN;
 use place_rules::table::UNICODE_OPERATOR;
+use place_rules::table::WHITE;
 use place_rules::table::kind_of;
 use place_rules::table::rule_of;
 use readers::comment_start;
@@ -49,7 +51,7 @@ use word_rulings::capital_name;
 use word_rulings::ident;
 use word_rulings::unicode_operator;
 ghost use mathlib.Core.Path.{_≡_};
-ghost use Prim.Native.Nat.{_≤_};
+ghost use Prim.Native.Nat.{_≤_, _<_};
 ghost use lib.ListN.{length};
 ghost use Rattle.definition.specs.Basics.{Bytes};
 ghost use Rattle.definition.specs.Token.{act};
@@ -58,13 +60,32 @@ ghost use Rattle.described.specs.declared.Turned.the-variants.{Done};
 ghost use Rattle.rulings.specs.Rulings.{Chose, Rules};
 ghost use Rattle.place_rules.specs.Tabled.{Tabled};
 ghost use Rattle.place_rules.specs.Ruling.{rule-of, does};
-ghost use Rattle.rules.specs.Acting.{Acts, ReadsOn, Short};
+ghost use Rattle.rules.specs.Acting.{Acts, ReadsOn, Short, Long, Sorts};
 
 // An unexpected character.
 const UNEXPECTED: u32 = 6;
 
+// Whether a rule gives a ruling.
+pub fn gives_ruling(rule: u32) -> bool
+    requires { ⌜ rule < 19 ⌝ }
+    ensures { λ r. ⌜ Sorts rule r ⌝ }
+{
+    match rule {
+        NO_RULE => false,
+        FENCED => false,
+        LANGUAGE => false,
+        WHITE => false,
+        LINE_END => false,
+        CHARACTER => false,
+        COMMENT => false,
+        LINE_COMMENT => false,
+        LITERAL => false,
+        _ => true,
+    }
+}
+
 // The ruling on a choice whose rule gives one. The last arm is the rule of operators: no other is left.
-fn ruled(text: &[u8], at: Place, choice: Choice, rule: u32) -> Ruling
+pub fn ruled(text: &[u8], at: Place, choice: Choice, rule: u32) -> Ruling
     requires { ⌜ Chose (now text) at (choice .end) × Tabled choice × (rule ≡ rule-of (choice .place)) × Short rule ⌝ }
     ensures { λ r. ⌜ ((name f : Bytes) → length name ≤ 4096 → Rules (now (text .entry)) name at (choice .end) (does (now (text .entry)) name f rule (at .st) (choice .place) (choice .end) (choice .word)) r) ⌝ }
 {
@@ -84,23 +105,21 @@ fn ruled(text: &[u8], at: Place, choice: Choice, rule: u32) -> Ruling
     }
 }
 
-// What is read of a choice whose rule passes nothing.
+// What is read of a choice whose rule passes nothing and gives no ruling. The last arm is that of no rule: no other is left.
 pub fn act(text: &[u8], name: &[u8], classes: &[u8], at: Place, choice: Choice) -> Read
-    requires { ⌜ Acts (now text) (now name) (now classes) at choice × ReadsOn (choice .place) ⌝ }
+    requires { ⌜ Acts (now text) (now name) (now classes) at choice × ReadsOn (choice .place) × Long (rule-of (choice .place)) ⌝ }
     ensures { λ r. ⌜ Turns (now (text .entry)) (now (name .entry)) (now (classes .entry)) (act (now (text .entry)) (now (name .entry)) (now (classes .entry)) (at .st) choice) (Done r) ⌝ }
 {
     let st = at.st;
     let known = at.known;
     let e = choice.end;
-    let rule = rule_of(choice.place);
-    match rule {
+    match rule_of(choice.place) {
         FENCED => fenced(text, name, at, e),
         LANGUAGE => language(text, name, at, e),
         CHARACTER => char_lit(text, name, at, e),
         COMMENT => comment_start(text, at, e),
         LINE_COMMENT => slashes(text, at, e),
         LITERAL => literal(text, name, classes, at, e),
-        NO_RULE => error_here(text, name, st, known, UNEXPECTED),
-        _ => finish(text, name, at, e, ruled(text, at, choice, rule)),
+        _ => error_here(text, name, st, known, UNEXPECTED),
     }
 }

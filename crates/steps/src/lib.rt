@@ -1,30 +1,28 @@
-// A step of the lexer: the next item from a state, with the state behind it.
+// A step of the lexer: the item that stands ahead of a reader, with the state behind it.
 //
-// Proved: `step` reads what the definition's `step` gives, and `next_token` what its `next-token` gives: item, payload and
-// state, and a column that is known behind it. White space and line ends of ASCII are passed before a turn (crate
-// `white_space`).
+// Proved: `read` reads what the definition gives: behind white space and line ends what its `next-token` gives, and in a
+// comment what its `comment` gives, item, payload and state, and a column that is known behind it.
 // Assumed: nothing but what each function's `requires` says: a reader stands in a sound state of a legal text and hasn't
-// ended, the class file is accepted, the tables of operator and of symbol characters are lent, and the name is short enough.
+// ended, what stands ahead was found there (crate `sights`), the class file is accepted, and the name is short enough.
 use comments::comment;
+use definition::Choice;
 use definition::Extra;
 use described::Payload;
 use described::Place;
 use described::Read;
-use described::places::moved;
-use described::places::next_line;
 use described::tokens::ended;
 use described::tokens::token;
-use place_rules::table::LINE_END;
-use place_rules::table::WHITE;
-use place_rules::table::rule_of;
+use finishes::finish;
 use positions::pos_of;
 use rules::act;
-use select::select;
-use white_space::behind_white;
-ghost use Rattle.definition.specs.Token.{next-token, step};
+use sights::Ahead;
+ghost use Rattle.definition.specs.Token.{next-token};
 ghost use Rattle.described.specs.Described.{Reads};
 ghost use Rattle.described.specs.Standing.{Standing};
-ghost use Rattle.steps.specs.Ready.{eof, ReadsEach, Ready, Open};
+ghost use Rattle.place_rules.specs.Ruling.{rule-of};
+ghost use Rattle.rules.specs.Acting.{Long};
+ghost use Rattle.sights.specs.Sights.{Faces, Readable, ahead-step};
+ghost use Rattle.steps.specs.Ready.{eof, ReadsEach, Lets};
 
 const EOF: u32 = 165;
 
@@ -49,55 +47,27 @@ fn end_of_text(text: &[u8], name: &[u8], at: Place) -> Read
     )
 }
 
-// The source's `next_token`: the next item between comments. White space and line ends are passed.
-pub fn next_token(
-    text: &[u8],
-    name: &[u8],
-    classes: &[u8],
-    ops: &[bool; 128],
-    symbols: &[bool; 128],
-    at: Place,
-) -> Read
-    requires { ⌜ Ready (now text) (now name) (now classes) (now ops) (now symbols) at ⌝ }
+// What is read of a choice: the source's `next_token` from behind white space and line ends, where no ruling is given.
+fn read_choice(text: &[u8], name: &[u8], classes: &[u8], at: Place, choice: Choice) -> Read
+    requires { ⌜ Faces (now text) (now classes) at choice × Long (rule-of (choice .place)) × Lets (now name) (now classes) ⌝ }
     ensures { λ r. ⌜ Reads (now (text .entry)) (now (name .entry)) (now (classes .entry)) (next-token (now (text .entry)) (now (name .entry)) (now (classes .entry)) (at .st)) r ⌝ }
 {
-    let mut from = at;
-    loop {
-        let here = behind_white(text, classes, from);
-        let st = here.st;
-        let i = st.offset as usize;
-        if text.len() <= i {
-            return end_of_text(text, name, here);
-        }
-        let choice = select(text, classes, ops, symbols, i);
-        let rule = rule_of(choice.place);
-        if rule == WHITE {
-            from = moved(here, choice.end);
-            continue;
-        }
-        if rule == LINE_END {
-            from = next_line(here, choice.end);
-            continue;
-        }
-        return act(text, name, classes, here, choice);
+    let st = at.st;
+    if text.len() <= st.offset as usize {
+        return end_of_text(text, name, at);
     }
+    act(text, name, classes, at, choice)
 }
 
-// The next item. In mode 1 it is the next piece of the comment that is open.
-pub fn step(
-    text: &[u8],
-    name: &[u8],
-    classes: &[u8],
-    ops: &[bool; 128],
-    symbols: &[bool; 128],
-    at: Place,
-) -> Read
-    requires { ⌜ Open (now text) (now name) (now classes) (now ops) (now symbols) at ⌝ }
-    ensures { λ r. ⌜ Reads (now (text .entry)) (now (name .entry)) (now (classes .entry)) (step (now (text .entry)) (now (name .entry)) (now (classes .entry)) (at .st)) r ⌝ }
+// The item that stands ahead of a reader.
+pub fn read(text: &[u8], name: &[u8], classes: &[u8], at: Place, ahead: Ahead) -> Read
+    requires { ⌜ Readable (now text) (now name) (now classes) at ahead × Lets (now name) (now classes) ⌝ }
+    ensures { λ r. ⌜ Reads (now (text .entry)) (now (name .entry)) (now (classes .entry)) (ahead-step (now (text .entry)) (now (name .entry)) (now (classes .entry)) (at .st) ahead) r ⌝ }
 {
     let st = at.st;
-    if st.mode == 1 {
-        return comment(text, st.offset as usize, at);
+    match ahead {
+        Ahead::Chosen(choice) => read_choice(text, name, classes, at, choice),
+        Ahead::Ruled { end, ruling } => finish(text, name, at, end, ruling),
+        Ahead::Inside => comment(text, st.offset as usize, at),
     }
-    next_token(text, name, classes, ops, symbols, at)
 }

@@ -1,7 +1,6 @@
--- Each arm does what the rule of its number does; the others are read by their rulings.
+-- Each arm does what the rule of its number does; what no arm has is no rule.
 use mathlib.Core.Path.{refl}
-use mathlib.Core.List.{[]}
-use Rattle.rules.proofs.RuleLaws.{tabled, chose, chose-short, short-rule, by-rule, carried-out}
+use Rattle.rules.proofs.RuleLaws.{tabled, chose, no-rule, by-rule}
 use borrow.Author.Needs.{needs}
 use Rattle.rules.proofs.act.Statement.{statement}
 use Rattle.rules.proofs.act.Tie as tie
@@ -30,12 +29,6 @@ literal-requires c κs = (chose (c .before .before .before .before .before .befo
 error-here-requires : tie.Need-error-here-requires
 error-here-requires c κs = search needs
 
-ruled-requires : tie.Need-ruled-requires
-ruled-requires c κs = let p = c .before .before .before .before .before .before .before .pre in let q = c .before .rule-of .ensures in let short = short-rule q (p .1) (c .match .rest) in (chose-short (p .0) q short, tabled (p .0), q, short)
-
-finish-requires : tie.Need-finish-requires
-finish-requires c κs = let p = c .before .before .before .before .before .before .before .before .pre in let q = c .before .before .rule-of .ensures in (chose-short (p .0) q (short-rule q (p .1) (c .before .match .rest)), c .ruled .ensures _ [] (p .0 .named) .fits)
-
 returns : tie.Need-returns
 returns c = by-rule (c .before .before .before .before .before .before .before .before .pre .0) (c .before .before .rule-of .ensures) (c .before .match .keys1) _ (c .fenced .ensures _)
 
@@ -55,10 +48,10 @@ returns-6 : tie.Need-returns-6
 returns-6 c = by-rule (c .before .before .before .before .before .before .before .before .pre .0) (c .before .before .rule-of .ensures) (c .before .match .keys6) _ (c .literal .ensures)
 
 returns-7 : tie.Need-returns-7
-returns-7 c = by-rule (c .before .before .before .before .before .before .before .before .pre .0) (c .before .before .rule-of .ensures) (c .before .match .keys7) _ (c .error-here .ensures _)
-
-returns-8 : tie.Need-returns-8
-returns-8 c = carried-out (c .before .before .before .before .before .before .before .before .before .pre .0) (c .before .before .before .rule-of .ensures) (c .before .ruled .ensures) (c .finish .ensures)
+returns-7 c =
+    let p = c .before .before .before .before .before .before .before .before .pre in
+    let q = c .before .before .rule-of .ensures in
+    by-rule (p .0) q (no-rule q (p .1) (p .2) (c .before .match .rest)) _ (c .error-here .ensures _)
 
 pub act-spec : {M : Type 1} → statement M
 act-spec =
@@ -72,13 +65,10 @@ act-spec =
     slashes-requires
     literal-requires
     error-here-requires
-    ruled-requires
-    finish-requires
     returns
     returns-2
     returns-3
     returns-4
     returns-5
     returns-6
-    returns-7
-    returns-8)
+    returns-7)

@@ -1,0 +1,108 @@
+-- A reader that looks for the next choice: behind what is passed it reads what it read before. Rests on the laws of choices, of
+-- progress and of sound states.
+use Prim.Native.Nat.{ℕ, _-_, _≤_, _<_}
+use native.Mathlib.Omega.{arith}
+use mathlib.Core.Path.{_≡_, refl, sym, subst, _∙_}
+use mathlib.Core.Bool.{false}
+use mathlib.Core.List.{[]}
+use lib.Dec.{eqb}
+use lib.ListN.{length}
+use borrow.Author.Tests.{eqb-false, ne-eqb}
+use Rattle.definition.specs.Basics.{Bytes}
+use Rattle.definition.specs.Select.{select}
+use Rattle.definition.specs.Token.{next-token}
+use Rattle.definition.specs.declared.Choice.{Choice}
+use Rattle.progress.proofs.Choices.{Fits, select-fits}
+use Rattle.described.specs.Described.{Turns}
+use Rattle.described.specs.Places.{moved, next-line}
+use Rattle.described.specs.declared.Place.{Place}
+use Rattle.described.specs.declared.Turned.the-variants.{Again}
+use Rattle.rulings.specs.Rulings.{Chose}
+use Rattle.place_rules.specs.Ruling.{rule-numbers, rule-of, does}
+use Rattle.place_rules.specs.Tabled.{Tabled}
+use Rattle.rules.specs.Acting.{Acts}
+use Rattle.rules.proofs.RuleLaws.{by-rule, moved-turns, line-turns}
+use Rattle.rules.proofs.Tabling.{select-tabled}
+use Rattle.white_space.specs.White.{Between, Behind}
+use Rattle.white_space.proofs.TurnLaws.{Goes, turn-acts, turn-goes}
+use Rattle.sights.specs.Sights.{Looks, Faces, Sees}
+use Rattle.sights.specs.declared.Sight.{Sight}
+
+-- a choice is one of the places, with a word of its table
+pub sight-tabled : (s f : Bytes) (i : ℕ) (c : Choice) → c ≡ select s f i → Tabled c
+sight-tabled s f i c q = subst Tabled (sym q) (select-tabled i s f)
+
+-- where some place was chosen the text hasn't ended, and the choice ends behind the reader
+pub some-chosen : {s f : Bytes} {at : Place} {c : Choice} → Between s f at → c ≡ select s f (at .st .offset) → (rule-of (c .place) ≡ 0 → ⊥) → Chose s at (c .end)
+unfolding rule-numbers
+some-chosen {s} {f} {at} {c} h q n =
+    let fits = subst (Fits s (at .st .offset)) (sym q) (select-fits s (at .st .offset) f) in
+    let some : eqb (c .place) 0 ≡ false = ne-eqb (c .place) 0 (λ o. n (subst (λ (k : ℕ). rule-of k ≡ 0) (sym o) refl)) in
+    record { standing = h .standing; between = h .between; onward = fits .chosen some .onward }
+
+-- what is asked where such a choice is acted on
+pub chosen-acts : {s name f : Bytes} {at : Place} {c : Choice} → Between s f at → c ≡ select s f (at .st .offset) → at .st .offset < length s → length name ≤ 4096
+    → Acts s name f at c
+chosen-acts h q before named = record {
+  standing = h .standing;
+  between = h .between;
+  before = before;
+  chosen = q;
+  accepted = h .accepted;
+  named = named;
+}
+
+-- ---- the loop
+
+-- a reader stands between comments, and what it reads is what the first reads
+pub record Reaching (s f : Bytes) (first here : Place) : Type 0 where
+  pub ready : Between s f here
+  pub same : (name : Bytes) → length name ≤ 4096 → next-token s name f (here .st) ≡ next-token s name f (first .st)
+
+pub reaching-starts : {s f : Bytes} {at : Place} → Between s f at → Reaching s f at at
+reaching-starts h = record { ready = h; same = λ name named. refl }
+
+pub reaching-behind : {s f : Bytes} {first from here : Place} → Reaching s f first from → Behind s f from here → Reaching s f first here
+reaching-behind k b = record { ready = b .ready; same = λ name named. b .same name ∙ k .same name named }
+
+module _ {s f : Bytes} {first here : Place} {c : Choice} (k : Reaching s f first here) (q : c ≡ select s f (here .st .offset))
+    {n : ℕ} (is : n ≡ rule-of (c .place)) where
+  -- a choice of a place that has a rule
+  pub chosen : {r : ℕ} → n ≡ r → eqb r 0 ≡ false → Chose s here (c .end)
+  chosen {r} p z = some-chosen (k .ready) q (λ o. eqb-false r 0 z (sym p ∙ is ∙ o))
+
+  -- behind what a rule passes the reader goes on, with less of the text before it
+  passed : {r : ℕ} {p : Place} → n ≡ r → eqb r 0 ≡ false
+      → ((name : Bytes) → Turns s name f (does s name f r (here .st) (c .place) (c .end) (c .word)) (Again p))
+      → Reaching s f first p × (length s - p .st .offset < length s - here .st .offset)
+  passed {r} {p} e z turns =
+      let o = chosen e z .onward in
+      let before : here .st .offset < length s = omega (arith, o .past, o .within) in
+      let goes : (name : Bytes) → length name ≤ 4096 → Goes s name f (here .st) p = λ name named.
+      turn-goes s name f (here .st) p (k .ready .standing .stands) (k .ready .between)
+      (turn-acts s name f (here .st) c (Again p) before q (by-rule (chosen-acts (k .ready) q before named) is e (Again p) (turns name))) in
+      let g = goes [] (omega arith) in (
+        record {
+          ready = record { standing = g .standing; between = g .between; accepted = k .ready .accepted };
+          same = λ name named. goes name named .same ∙ k .same name named;
+        },
+        g .less,
+      )
+
+  pub passed-white : {p : Place} → n ≡ 4 → p ≡ moved here (c .end) → Reaching s f first p × (length s - p .st .offset < length s - here .st .offset)
+  passed-white e d = passed e refl (λ name. moved-turns (chosen e refl) d)
+
+  pub passed-line : {p : Place} → n ≡ 5 → p ≡ next-line here (c .end) → Reaching s f first p × (length s - p .st .offset < length s - here .st .offset)
+  passed-line e d = passed e refl (λ name. line-turns (chosen e refl) d)
+
+  -- what is neither is what the reader sees
+  pub seen : (n ≡ 4 → ⊥) → (n ≡ 5 → ⊥) → Sees s f first (record { at = here; choice = c })
+  seen w l = record {
+    faces = record {
+      standing = k .ready .standing;
+      between = k .ready .between;
+      chosen = q;
+      on = record { no-white = λ e. w (is ∙ e); no-line-end = λ e. l (is ∙ e) };
+    };
+    same = k .same;
+  }
