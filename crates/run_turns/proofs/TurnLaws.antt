@@ -19,7 +19,9 @@ use Rattle.described.specs.declared.Payload.the-variants.{Part, Text, Greater, 
 use Rattle.described.specs.Described.{bytes-of, length-of, Listed, Inside, Measurable, Reads, Known-at}
 use Rattle.soundness.proofs.Payloads.{payload-bound, budget-small}
 use Rattle.run_turns.specs.declared.Went.the-variants.{Wrote}
-use Rattle.run_turns.specs.Running.{writing, Ran, Between, ItemFits}
+use Rattle.sights.specs.Sights.{ahead-step}
+use Rattle.sights.specs.declared.Ahead.{Ahead}
+use Rattle.run_turns.specs.Running.{writing, Ran, Between, StandsAhead, ItemFits}
 
 module _ (s name f : Bytes) (a : Writing) where
   -- the reading has ended
@@ -57,6 +59,11 @@ module _ (s name f : Bytes) (a : Writing) where
           )
 
 -- ---- what the code's turn did
+
+-- what stands ahead, read, is the step from where the run stands
+pub ahead-reads : {s name f : Bytes} {at here : Place} {ahead : Ahead} {r : Read} → StandsAhead s name f at here ahead → (at .st .mode ≡ 2 → ⊥)
+    → Reads s name f (ahead-step s name f (here .st) ahead) r → Reads s name f (step s name f (at .st)) r
+ahead-reads {s} {name} {f} {r = r} a awake d = subst (λ (t : Step). Reads s name f t r) (a .is awake) d
 
 module _ (s name f : Bytes) (at : Place) (count used : ℕ) (rs : List ℕ) (ps : Bytes) where
   -- what a step's payload measures

@@ -7,15 +7,19 @@ use lib.ListN.{length}
 use Rattle.definition.specs.Basics.{Bytes, Turn, again, done}
 use Rattle.definition.specs.ClassFile.{class-check}
 use Rattle.definition.specs.Item.{record-size}
-use Rattle.definition.specs.Run.{Outcome, Writing}
+use Rattle.definition.specs.Token.{step}
+use Rattle.definition.specs.Run.{Outcome, Writing, run-items}
 use Rattle.definition.specs.declared.State.{State}
 use Rattle.definition.specs.declared.RunAnswer.{RunAnswer}
 use Rattle.progress.proofs.Moves.{left}
+use Rattle.progress.proofs.Fuel.{run-from}
 use Rattle.state.specs.Sound.{Stands}
 use Rattle.soundness.specs.Budget.{budget}
 use Rattle.described.specs.declared.Place.{Place}
 use Rattle.described.specs.declared.Read.{Read}
 use Rattle.described.specs.Described.{bytes-of, length-of, Inside, Known-at}
+use Rattle.sights.specs.Sights.{Readable, ahead-step}
+use Rattle.sights.specs.declared.Ahead.{Ahead}
 use Rattle.run_turns.specs.declared.Went.{Went}
 use Rattle.run_turns.specs.declared.Went.the-variants.{Stop, Wrote}
 
@@ -47,6 +51,16 @@ pub record Between (s name f : Bytes) (at : Place) (count used : ℕ) (rs : List
   pub named : length name ≤ 4096
   pub kept : Kept s (writing at count used rs ps)
   pub cached : Known-at s (at .st) (at .known)
+
+-- what stands ahead of the reader at `at` is `ahead`, behind white space at `here`, unless the reading has ended
+pub record StandsAhead (s name f : Bytes) (at here : Place) (ahead : Ahead) : Type 0 where
+  pub readable : (at .st .mode ≡ 2 → ⊥) → Readable s name f here ahead
+  pub is : (at .st .mode ≡ 2 → ⊥) → ahead-step s name f (here .st) ahead ≡ step s name f (at .st)
+
+-- what is still to come gives what the whole run gives that began in the state st with the buffers rs₀ and ps₀
+pub record Going (s name f : Bytes) (st : State) (rs₀ : List ℕ) (ps₀ : Bytes) (at : Place) (count used : ℕ) (rs : List ℕ) (ps : Bytes) : Type 0 where
+  pub between : Between s name f at count used rs ps
+  pub same : run-from s name f (writing at count used rs ps) ≡ run-items s name f st rs₀ ps₀
 
 -- an item that was read fits: its record from number `first` on, its payload from byte `used` on
 pub record ItemFits (s name f : Bytes) (r : Read) (first used : ℕ) (rs : List ℕ) (ps : Bytes) : Type 0 where

@@ -1,21 +1,21 @@
-// One turn of a run: the next item is read, and written where it fits.
+// One turn of a run: the item that stands ahead is read, and written where it fits.
 //
 // Proved: a turn does to the buffers what the definition's turn of a run says, and answers why it stopped or where reading
-// goes on.
+// goes on. proofs/RunLaws.antt has the laws of a run that goes on, turn by turn.
 // Assumed: nothing but what each function's `requires` says: the run was not refused, it stands between two items
-// (`Between`), the tables of operator and of symbol characters are lent, and an item that is written fits (`ItemFits`).
+// (`Between`), what stands ahead was found there (`StandsAhead`), and an item that is written fits (`ItemFits`).
 use described::Place;
 use described::Read;
 use described::length_of;
 use payloads::write;
 use records::write_record;
-use steps::step;
+use sights::Ahead;
+use steps::read;
 ghost use mathlib.Core.Path.{_≡_};
 ghost use Rattle.definition.specs.Item.{words};
 ghost use Rattle.definition.specs.Run.{put, run-turn};
-ghost use Rattle.select.specs.Standing.{Lent};
 ghost use Rattle.described.specs.Described.{bytes-of};
-ghost use Rattle.run_turns.specs.Running.{writing, Ran, Between, ItemFits};
+ghost use Rattle.run_turns.specs.Running.{writing, Ran, Between, StandsAhead, ItemFits};
 
 // What a turn of a run did: it stopped, for document 01's reason, or it wrote an item, behind which reading goes on with so
 // many payload bytes used.
@@ -45,19 +45,20 @@ fn write_item(
 }
 
 // One turn: stop 0 at the end, stop 1 where no record fits, stop 2 where the next payload doesn't; else an item is written.
+// The run stands at `at`, and behind white space, at `here`, stands what is ahead.
 pub fn turn(
     text: &[u8],
     name: &[u8],
     classes: &[u8],
-    ops: &[bool; 128],
-    symbols: &[bool; 128],
     at: Place,
+    here: Place,
+    ahead: Ahead,
     count: usize,
     used: usize,
     records: &mut [u32],
     payload: &mut [u8],
 ) -> Went
-    requires { ⌜ Between (now text) (now name) (now classes) at count used (now records) (now payload) × Lent (now classes) (now ops) (now symbols) ⌝ }
+    requires { ⌜ Between (now text) (now name) (now classes) at count used (now records) (now payload) × StandsAhead (now text) (now name) (now classes) at here ahead ⌝ }
     ensures { λ r. ⌜ Ran (now (text .entry)) (run-turn (now (text .entry)) (now (name .entry)) (now (classes .entry)) (writing at count used (now (records .entry)) (now (payload .entry)))) count (at .st) r (now (records .exit)) (now (payload .exit)) ⌝ }
 {
     let st = at.st;
@@ -68,7 +69,7 @@ pub fn turn(
     if records.len() - first < 16 {
         return Went::Stop(1);
     }
-    let r = step(text, name, classes, ops, symbols, at);
+    let r = read(text, name, classes, here, ahead);
     let bytes = r.payload;
     let size = length_of(name, bytes);
     if payload.len() - used < size {

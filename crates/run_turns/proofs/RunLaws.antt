@@ -30,8 +30,8 @@ use Rattle.described.specs.declared.Place.{Place}
 use Rattle.described.specs.Described.{Known-at}
 use Rattle.runs.proofs.Items.{step-left}
 use Rattle.runs.proofs.Buffers.{words-size}
 use Rattle.run_turns.specs.declared.Went.the-variants.{Stop, Wrote}
-use Rattle.run_turns.specs.Running.{writing, answered, Ran, Kept, Between}
+use Rattle.run_turns.specs.Running.{writing, answered, Ran, Kept, Between, Going}
 
 module _ (s name f : Bytes) (named : length name ≤ 4096) where
   -- an item that was written leaves what was kept
@@ -69,11 +69,6 @@ module _ (s name f : Bytes) (named : length name ≤ 4096) where
       L = Leads (λ b. Kept s b × (left s (b .state) < left s (a .state))) Any
 
 -- ---- the loop
-
--- what is still to come gives what the whole gives
-pub record Going (s name f : Bytes) (st : State) (rs₀ : List ℕ) (ps₀ : Bytes) (at : Place) (count used : ℕ) (rs : List ℕ) (ps : Bytes) : Type 0 where
-  pub between : Between s name f at count used rs ps
-  pub same : run-from s name f (writing at count used rs ps) ≡ run-items s name f st rs₀ ps₀
 
 -- a column is known where a line begins
 begins : (s : Bytes) (st : State) → Known-at s st (record { off = st .bol; col = st .column })
