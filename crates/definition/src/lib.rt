@@ -59,12 +59,22 @@ pub struct State {
 }
 
 impl State {
-    // The state that has read up to byte i.
-    pub fn advance(mut self, i: u32) -> State
+    // The state that has read up to byte i. It is built field by field: a struct that is only handed on whole is copied as
+    // bytes, and this is where nearly all states come from.
+    pub fn advance(self, i: u32) -> State
         ensures { λ r. ⌜ r ≡ advance self i ⌝ }
     {
-        self.offset = i;
-        self
+        let comment = self.comment;
+        State {
+            offset: i,
+            line: self.line,
+            bol: self.bol,
+            column: self.column,
+            comments: self.comments,
+            mode: self.mode,
+            depth: self.depth,
+            comment: comment,
+        }
     }
 
     // A line end was read: the next line begins here.

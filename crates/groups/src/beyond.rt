@@ -9,7 +9,7 @@ use chars::is_uoperator;
 use definition::Choice;
 use definition::Match;
 use fixed_chars::is_newline_char;
-use scan::star_ident_char;
+use scan::ident_decoded;
 use words::keep;
 use words::kw_op;
 use words::nothing;
@@ -48,7 +48,7 @@ fn ident_behind(text: &[u8], file: &[u8], c: u32, j: usize) -> Match
     ensures { λ r. ⌜ r ≡ only (is-ident-start c) (To (star (is-ident-char (now (file .entry))) (now (text .entry)) j)) ⌝ }
 {
     if is_ident_start(c) {
-        return Match::To(star_ident_char(text, file, j));
+        return Match::To(ident_decoded(text, file, j));
     }
     Match::Nothing
 }
@@ -59,7 +59,7 @@ fn constructor_behind(text: &[u8], file: &[u8], c: u32, j: usize) -> Match
     ensures { λ r. ⌜ r ≡ only (is-constructor-start (now (file .entry)) c) (To (star (is-ident-char (now (file .entry))) (now (text .entry)) j)) ⌝ }
 {
     if is_constructor_start(file, c) {
-        return Match::To(star_ident_char(text, file, j));
+        return Match::To(ident_decoded(text, file, j));
     }
     Match::Nothing
 }

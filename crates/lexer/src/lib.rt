@@ -1,5 +1,5 @@
 // Document 01's run, over a text, on numbers and lent buffers. (Its `start` and class check are `state::start` and
-// `classes::check::class_check`; a turn of it is `run_turns::turn`.)
+// `classes::check::class_check`; its tokens are written by `tokens::tokens`, any other item by `run_turns::turn`.)
 //
 // Proved: for every input `run` answers, and leaves both buffers, as the definition's `run` says, refusals included; and
 // for a run that isn't refused, demand 3 holds at every reading position. Assumed: nothing.
@@ -12,12 +12,13 @@ use positions::Cache;
 use refusals::refusal;
 use run_turns::Went;
 use run_turns::turn;
+use tokens::tokens;
 ghost use mathlib.Core.Path.{_≡_};
 ghost use Rattle.definition.specs.Run.{run-items, run};
 ghost use Rattle.definition.specs.Reading.{EveryReading};
 ghost use Rattle.soundness.proofs.Refusals.{Accepted};
 
-// The items of a run that isn't refused.
+// The items of a run that isn't refused: tokens as long as they follow one another, and then the item that stands ahead.
 fn run_items(
     text: &[u8],
     name: &[u8],
@@ -42,32 +43,38 @@ fn run_items(
     let mut count: usize = 0;
     let mut used: usize = 0;
     loop {
+        let burst = tokens(
+            text, classes, &ops, &symbols, at, count, used, records, payload,
+        );
+        let last = burst.at;
+        let here = burst.here;
+        let ahead = burst.ahead;
         match turn(
             text,
             name,
             classes,
-            &ops,
-            &symbols,
-            at,
-            count,
-            used,
+            last,
+            here,
+            ahead,
+            burst.count,
+            burst.used,
             records,
             payload,
         ) {
             Went::Stop(stop) => {
-                let state = at.st;
+                let state = last.st;
                 return RunAnswer {
                     refusal: 0,
                     offset: 0,
                     stop: stop,
-                    count: count as u32,
+                    count: burst.count as u32,
                     state: state,
                 };
             }
             Went::Wrote { next, used: filled } => {
                 at = next;
                 used = filled;
-                count += 1;
+                count = burst.count + 1;
             }
         }
     }

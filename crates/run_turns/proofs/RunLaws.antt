@@ -96,6 +96,16 @@ going-starts s name f st rs ps h = record {
   same = sym (run-is s name f st rs ps);
 }
 
+-- behind an item that was written a run stands between two items again, with less to read
+pub between-on : {s name f : Bytes} {at : Place} {count used : ℕ} {rs : List ℕ} {ps : Bytes} → Between s name f at count used rs ps
+    → (next : Place) (used′ : ℕ) (rs′ : List ℕ) (ps′ : Bytes)
+    → Ran s (run-turn s name f (writing at count used rs ps)) count (at .st) (Wrote next used′) rs′ ps′
+    → Between s name f next (count + 1) used′ rs′ ps′ × (left s (next .st) < left s (at .st))
+between-on {s} {name} {f} {at} {count} {used} {rs} {ps} b next used′ rs′ ps′ e =
+    let k : Kept s (writing next (count + 1) used′ rs′ ps′) × (left s (next .st) < left s (at .st)) =
+    subst (Leads (λ b. Kept s b × (left s (b .state) < left s (at .st))) Any) (e .0) (turn-keeps s name f (b .named) (writing at count used rs ps) (b .kept)) in
+    (record { accepted = b .accepted; named = b .named; kept = k .0; cached = e .1 }, k .1)
+
 module _ {s name f : Bytes} {st : State} {rs₀ : List ℕ} {ps₀ : Bytes} {at : Place} {count used : ℕ} {rs : List ℕ} {ps : Bytes}
     (g : Going s name f st rs₀ ps₀ at count used rs ps) where
   unrolled : run-from s name f (writing at count used rs ps) ≡ says (run-turn s name f (writing at count used rs ps)) (run-from s name f)
@@ -112,12 +122,7 @@ module _ {s name f : Bytes} {st : State} {rs₀ : List ℕ} {ps₀ : Bytes} {at 
       → Ran s (run-turn s name f (writing at count used rs ps)) count (at .st) (Wrote next used′) rs′ ps′
       → Going s name f st rs₀ ps₀ next (count + 1) used′ rs′ ps′ × (left s (next .st) < left s (at .st))
   going-on next used′ rs′ ps′ e =
-      let b = g .between in
-      let k : Kept s (writing next (count + 1) used′ rs′ ps′) × (left s (next .st) < left s (at .st)) =
-      subst (Leads (λ b. Kept s b × (left s (b .state) < left s (at .st))) Any) (e .0) (turn-keeps s name f (b .named) (writing at count used rs ps) (b .kept)) in (
-        record {
-          between = record { accepted = b .accepted; named = b .named; kept = k .0; cached = e .1 };
-          same = ap (λ (t : Turn Writing Outcome). says t (run-from s name f)) (sym (e .0)) ∙ sym unrolled ∙ g .same;
-        },
-        k .1,
+      let b = between-on (g .between) next used′ rs′ ps′ e in (
+        record { between = b .0; same = ap (λ (t : Turn Writing Outcome). says t (run-from s name f)) (sym (e .0)) ∙ sym unrolled ∙ g .same },
+        b .1,
       )

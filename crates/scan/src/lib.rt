@@ -168,7 +168,7 @@ pub fn one_ident_char(text: &[u8], file: &[u8], i: usize) -> Match
 }
 
 // The end of the run of identifier characters from i on, each character decoded.
-fn ident_decoded(text: &[u8], file: &[u8], i: usize) -> usize
+pub fn ident_decoded(text: &[u8], file: &[u8], i: usize) -> usize
     requires { ⌜ class-check (now file) ≡ 0 ⌝ }
     ensures { λ r. ⌜ r ≡ star (is-ident-char (now (file .entry))) (now (text .entry)) i ⌝ }
 {

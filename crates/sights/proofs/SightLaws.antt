@@ -2,26 +2,30 @@
 -- progress and of sound states.
 use Prim.Native.Nat.{ℕ, _-_, _≤_, _<_}
 use native.Mathlib.Omega.{arith}
-use mathlib.Core.Path.{_≡_, refl, sym, subst, _∙_}
+use mathlib.Core.Path.{_≡_, refl, sym, ap, subst, _∙_}
 use mathlib.Core.Bool.{false}
 use mathlib.Core.List.{[]}
 use lib.Dec.{eqb}
 use lib.ListN.{length}
-use borrow.Author.Tests.{eqb-false, ne-eqb}
+use borrow.Author.Tests.{eqb-false, ne-eqb, lt-leb}
 use Rattle.definition.specs.Basics.{Bytes}
+use Rattle.definition.specs.ClassFile.{class-check}
 use Rattle.definition.specs.Select.{select}
-use Rattle.definition.specs.Token.{next-token}
+use Rattle.definition.specs.Token.{Token-turn, act, token-turn, next-token}
 use Rattle.definition.specs.declared.Choice.{Choice}
+use Rattle.lemmas.proofs.Loops.{says}
 use Rattle.progress.proofs.Choices.{Fits, select-fits}
+use Rattle.progress.proofs.Tokens.{token-unroll}
 use Rattle.described.specs.Described.{Turns}
 use Rattle.described.specs.Places.{moved, next-line}
 use Rattle.described.specs.declared.Place.{Place}
 use Rattle.described.specs.declared.Turned.the-variants.{Again}
-use Rattle.rulings.specs.Rulings.{Chose}
+use Rattle.rulings.specs.Rulings.{Chose, Rules, ruling-step}
+use Rattle.rulings.specs.declared.Ruling.{Ruling}
 use Rattle.place_rules.specs.Ruling.{rule-numbers, rule-of, does}
 use Rattle.place_rules.specs.Tabled.{Tabled}
-use Rattle.rules.specs.Acting.{Acts}
-use Rattle.rules.proofs.RuleLaws.{by-rule, moved-turns, line-turns}
+use Rattle.rules.specs.Acting.{Acts, Short}
+use Rattle.rules.proofs.RuleLaws.{by-rule, ruled-acts, moved-turns, line-turns}
 use Rattle.rules.proofs.Tabling.{select-tabled}
 use Rattle.white_space.specs.White.{Between, Behind}
 use Rattle.white_space.proofs.TurnLaws.{Goes, turn-acts, turn-goes}
@@ -106,3 +110,27 @@ module _ {s f : Bytes} {first here : Place} {c : Choice} (k : Reaching s f first
     };
     same = k .same;
   }
+
+-- ---- rulings
+
+-- before the text's end a turn acts on the choice
+turn-is : (s name f : Bytes) (at : Place) (c : Choice) → c ≡ select s f (at .st .offset) → at .st .offset < length s → token-turn s name f (at .st) ≡ act s name f (at .st) c
+unfolding token-turn
+turn-is s name f at c q h = rw (token-turn, lt-leb _ _ h, ← q)
+
+module _ {s f : Bytes} {here : Place} {c : Choice} (h : Faces s f here c) (accepted : class-check f ≡ 0) {n : ℕ} (q : n ≡ rule-of (c .place)) (short : Short n) where
+  ready : Between s f here
+  ready = record { standing = h .standing; between = h .between; accepted = accepted }
+
+  -- a choice whose rule gives a ruling ends behind the reader
+  pub ruling-chose : Chose s here (c .end)
+  ruling-chose = some-chosen ready (h .chosen) (λ o. short .short .0 .0 .0 .0 .0 .0 .0 .0 .1 (q ∙ o))
+
+  -- the step that the ruling stands for is the next item
+  pub ruling-next : {x : Ruling} (name : Bytes) → length name ≤ 4096 → Rules s name here (c .end) (does s name f n (here .st) (c .place) (c .end) (c .word)) x
+      → next-token s name f (here .st) ≡ ruling-step s name f (here .st) (c .end) x
+  ruling-next name named rules =
+      let o = ruling-chose .onward in
+      let before : here .st .offset < length s = omega (arith, o .past, o .within) in
+      token-unroll s name f (here .st)
+      ∙ ap (λ (t : Token-turn). says t (next-token s name f)) (turn-is s name f here c (h .chosen) before ∙ ruled-acts (chosen-acts ready (h .chosen) before named) q rules)

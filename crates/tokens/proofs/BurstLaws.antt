@@ -1,0 +1,155 @@
+-- A run's tokens, one behind the other: what holds between two of them, and what stands ahead behind the last. Rests on the laws of
+-- rulings, of tokens that were written and of a run that goes on.
+use Prim.Native.Nat.{ℕ, _+_, _*_, _≤_, _<_}
+use mathlib.Core.Path.{_≡_, refl, sym, subst, _∙_}
+use mathlib.Core.Bool.{Bool}
+use mathlib.Core.List.{List, []}
+use native.Mathlib.Omega.{arith}
+use lib.ListN.{length}
+use borrow.Author.Tests.{eq-eqb, ne-eqb}
+use Rattle.definition.specs.Basics.{Bytes}
+use Rattle.definition.specs.ClassFile.{class-check}
+use Rattle.definition.specs.Comment.{comment}
+use Rattle.definition.specs.Item.{record-size}
+use Rattle.definition.specs.Token.{next-token, step}
+use Rattle.definition.specs.Run.{run-turn}
+use Rattle.definition.specs.declared.State.{State}
+use Rattle.progress.proofs.Moves.{left}
+use Rattle.columns.specs.Stretches.{Plain}
+use Rattle.columns.specs.declared.Stretch.{Stretch}
+use Rattle.described.specs.Standing.{Standing}
+use Rattle.described.specs.declared.Place.{Place}
+use Rattle.rulings.specs.Rulings.{Rules, ruling-step}
+use Rattle.rulings.specs.declared.Ruling.{Ruling}
+use Rattle.rulings.specs.declared.Ruling.the-variants.{Token, Error, LineComment}
+use Rattle.place_rules.specs.Ruling.{rule-of, does}
+use Rattle.rules.specs.Acting.{Short, Long}
+use Rattle.sights.specs.Sights.{Looks, Sees}
+use Rattle.sights.specs.declared.Sight.{Sight}
+use Rattle.sights.specs.declared.Ahead.the-variants.{Chosen, Ruled, Inside}
+use Rattle.sights.proofs.SightLaws.{ruling-chose, ruling-next}
+use Rattle.select.specs.Standing.{Lent}
+use Rattle.run_turns.specs.declared.Went.the-variants.{Wrote}
+use Rattle.run_turns.specs.Running.{writing, Ran, Between, StandsAhead, Going}
+use Rattle.run_turns.proofs.RunLaws.{between-on, going-on}
+use Rattle.tokens.specs.Tokens.{Writes, Puts, Leads}
+use Rattle.tokens.specs.declared.Put.the-variants as put-variants
+use Rattle.tokens.specs.declared.Burst.{Burst}
+use Rattle.tokens.proofs.TokenLaws.{ruling-ran}
+
+-- ---- what stands ahead
+
+-- between comments a step is the next token, in one it is the comment's next piece
+step-between : (s name f : Bytes) (st : State) → st .mode ≡ 0 → step s name f st ≡ next-token s name f st
+unfolding step
+step-between s name f st m = rw (step, ne-eqb (st .mode) 1 (λ e. absurd (omega (arith, m, e))))
+
+step-inside : (s name f : Bytes) (st : State) → st .mode ≡ 1 → step s name f st ≡ comment s (st .offset) st
+unfolding step
+step-inside s name f st m = rw (step, eq-eqb (st .mode) 1 m)
+
+-- in a comment
+pub ahead-inside : {s name f : Bytes} {at : Place} → Standing s (at .st) (at .known) → (at .st .mode ≡ 0 → ⊥) → StandsAhead s name f at at Inside
+ahead-inside {s} {name} {f} {at} h n =
+    let inside : (at .st .mode ≡ 2 → ⊥) → at .st .mode ≡ 1 = λ w. omega (arith, n, w, h .stands .sound .mode) in
+    record { readable = λ w. (h, inside w); is = λ w. sym (step-inside s name f (at .st) (inside w)) }
+
+module _ {s f : Bytes} {at : Place} {r : Sight} (m : at .st .mode ≡ 0) (h : Sees s f at r) where
+  -- a choice whose rule gives no ruling
+  pub ahead-chosen : {n : ℕ} → n ≡ rule-of (r .choice .place) → Long n → (name : Bytes) → length name ≤ 4096 → StandsAhead s name f at (r .at) (Chosen (r .choice))
+  ahead-chosen q long name named = record {
+    readable = λ w. (h .faces, subst Long q long);
+    is = λ w. h .same name named ∙ sym (step-between s name f (at .st) m);
+  }
+
+  -- a ruling on a choice, given for every name that is short enough
+  module _ (accepted : class-check f ≡ 0) {n : ℕ} (q : n ≡ rule-of (r .choice .place)) (short : Short n) {x : Ruling}
+      (rules : (name g : Bytes) → length name ≤ 4096 → Rules s name (r .at) (r .choice .end) (does s name g n (r .at .st) (r .choice .place) (r .choice .end) (r .choice .word)) x) where
+    ruled-step : (name : Bytes) → length name ≤ 4096 → ruling-step s name f (r .at .st) (r .choice .end) x ≡ step s name f (at .st)
+    ruled-step name named =
+        sym (ruling-next (h .faces) accepted q short name named (rules name f named)) ∙ h .same name named ∙ sym (step-between s name f (at .st) m)
+
+    pub ahead-ruled : (name : Bytes) → length name ≤ 4096 → StandsAhead s name f at (r .at) (Ruled (r .choice .end) x)
+    ahead-ruled name named = record {
+      readable = λ w. (ruling-chose (h .faces) accepted q short, rules name f named .fits);
+      is = λ w. ruled-step name named;
+    }
+
+    -- a token that was written is a turn of the run
+    pub ruled-ran : {count used : ℕ} {rs : List ℕ} {ps : Bytes} {next : Place} {used′ : ℕ} {plain : Stretch} {rs′ : List ℕ} {ps′ : Bytes}
+        → Puts s (r .at) x (record-size * count) used rs ps (put-variants.Token next used′ plain) rs′ ps′ → (name : Bytes) → length name ≤ 4096
+        → Ran s (run-turn s name f (writing at count used rs ps)) count (at .st) (Wrote next used′) rs′ ps′
+    ruled-ran w name named = ruling-ran (λ e. absurd (omega (arith, m, e))) x {e = r .choice .end} (ruled-step name named) (rules name f named .fits) w
+
+-- behind it reading goes on between comments, with a stretch that is ASCII
+pub put-stays : {s : Bytes} {here : Place} (x : Ruling) {first used : ℕ} {rs : List ℕ} {ps : Bytes} {next : Place} {used′ : ℕ} {plain : Stretch} {rs′ : List ℕ} {ps′ : Bytes}
+    → here .st .mode ≡ 0 → Puts s here x first used rs ps (put-variants.Token next used′ plain) rs′ ps′ → (next .st .mode ≡ 0) × Plain s plain
+put-stays (Token k i e p) m w = (rw (w .behind) m, w .plain)
+put-stays (Error n p) m w = absurd w
+put-stays LineComment m w = absurd w
+
+-- ---- the loop
+
+-- between two tokens: the run goes on as it would have before the first, whatever the file's name is
+pub record Bursting (s f : Bytes) (start : Place) (begun filled : ℕ) (rs₀ : List ℕ) (ps₀ : Bytes) (at : Place) (count used : ℕ) (plain : Stretch) (rs : List ℕ)
+    (ps : Bytes) : Type 0 where
+  pub between : Between s [] f at count used rs ps
+  pub mode : at .st .mode ≡ 0
+  pub plain : Plain s plain
+  pub going : (name : Bytes) (st : State) (rs₁ : List ℕ) (ps₁ : Bytes) → Going s name f st rs₁ ps₁ start begun filled rs₀ ps₀ → Going s name f st rs₁ ps₁ at count used rs ps
+  pub less : left s (at .st) ≤ left s (start .st)
+
+pub bursting-starts : {s f : Bytes} {start : Place} {begun filled : ℕ} {rs : List ℕ} {ps : Bytes} → Between s [] f start begun filled rs ps → start .st .mode ≡ 0
+    → Bursting s f start begun filled rs ps start begun filled (record { from = 0; to = 0 }) rs ps
+bursting-starts b m = record { between = b; mode = m; plain = λ k l u. absurd (omega (arith, u)); going = λ name st rs ps g. g; less = omega arith }
+
+module _ {s f : Bytes} {start : Place} {begun filled : ℕ} {rs₀ : List ℕ} {ps₀ : Bytes} {at : Place} {count used : ℕ} {plain : Stretch} {rs : List ℕ} {ps : Bytes}
+    (k : Bursting s f start begun filled rs₀ ps₀ at count used plain rs ps) where
+  -- what looking ahead and writing ask for
+  pub bursting-looks : {ops symbols : List Bool} → Lent f ops symbols → Looks s f ops symbols at
+  bursting-looks lent = record { standing = record { stands = k .between .kept .stands; cached = k .between .cached }; between = k .mode; lent = lent }
+
+  pub bursting-writes : Writes s (record-size * count) used plain rs ps
+  bursting-writes = record {
+    begun = k .between .kept .begun;
+    filled = k .between .kept .filled;
+    little = omega (arith, k .between .kept .spent);
+    plain = k .plain;
+  }
+
+  -- a token that was written is passed
+  pub bursting-on : {next : Place} {used′ : ℕ} {plain′ : Stretch} {rs′ : List ℕ} {ps′ : Bytes}
+      → ((name : Bytes) → length name ≤ 4096 → Ran s (run-turn s name f (writing at count used rs ps)) count (at .st) (Wrote next used′) rs′ ps′)
+      → (next .st .mode ≡ 0) × Plain s plain′
+      → Bursting s f start begun filled rs₀ ps₀ next (count + 1) used′ plain′ rs′ ps′ × (left s (next .st) < left s (at .st))
+  bursting-on {next} {used′} {plain′} {rs′} {ps′} ran stays =
+      let b = between-on (k .between) next used′ rs′ ps′ (ran [] (omega arith)) in (
+        record {
+          between = b .0;
+          mode = stays .0;
+          plain = stays .1;
+          going = λ name st rs₁ ps₁ g.
+            let here = k .going name st rs₁ ps₁ g in
+            going-on here next used′ rs′ ps′ (ran name (here .between .named)) .0;
+          less = omega (arith, b .1, k .less);
+        },
+        b .1,
+      )
+
+  -- what stands ahead ends it
+  pub bursting-ends : {b : Burst} → b .at ≡ at → b .count ≡ count → b .used ≡ used
+      → ((name : Bytes) → length name ≤ 4096 → StandsAhead s name f at (b .here) (b .ahead)) → Leads s f start begun filled rs₀ ps₀ b rs ps
+  bursting-ends {b} p q u ahead = record {
+    going = λ name st rs₁ ps₁ g. rw (p, q, u) (k .going name st rs₁ ps₁ g);
+    ahead = λ name named. rw p (ahead name named);
+    less = rw p (k .less);
+  }
+
+-- in a comment, or where the reading has ended, nothing is passed
+pub leads-nowhere : {s f : Bytes} {start : Place} {begun filled : ℕ} {rs : List ℕ} {ps : Bytes} → Between s [] f start begun filled rs ps → (start .st .mode ≡ 0 → ⊥)
+    → Leads s f start begun filled rs ps (record { at = start; here = start; ahead = Inside; count = begun; used = filled }) rs ps
+leads-nowhere b n = record {
+  going = λ name st rs ps g. g;
+  ahead = λ name named. ahead-inside (record { stands = b .kept .stands; cached = b .cached }) n;
+  less = omega arith;
+}
