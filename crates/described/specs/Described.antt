@@ -17,6 +17,8 @@ use Rattle.entries.specs.Entries.{texts}
 use Rattle.positions.specs.Columns.{Known}
 use Rattle.positions.specs.declared.Cache.{Cache}
 use Rattle.definition.specs.declared.State.{State}
+use Rattle.definition.specs.declared.Match.{Match}
+use Rattle.definition.specs.declared.Match.the-variants.{To, Nothing}
 use Rattle.described.specs.declared.Place.{Place}
 use Rattle.described.specs.declared.Turned.{Turned}
 use Rattle.described.specs.declared.Turned.the-variants.{Done, Again}
@@ -55,6 +57,18 @@ length-of name (FileLine n) = length name + (length (show n) + 2)
 length-of name (Literal from n) = n
 length-of name (Piece from to width n) = n
 length-of name (Blob from to contents end) = (to - from) + (end - contents)
+
+-- how many they are where they are a part of the text or a text of the table, which are most payloads
+abbrev pub short-length : Payload → Match
+short-length (Part from to) = To (to - from)
+short-length (Text k) = To (length (getD texts k []))
+short-length (Greater from to) = Nothing
+short-length Name = Nothing
+short-length (Line n) = Nothing
+short-length (FileLine n) = Nothing
+short-length (Literal from n) = Nothing
+short-length (Piece from to width n) = Nothing
+short-length (Blob from to contents end) = Nothing
 
 -- its text is one of the table
 abbrev pub Listed : Payload → Type 0

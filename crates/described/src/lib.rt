@@ -1,20 +1,22 @@
 // Payloads as descriptions. An item whose payload doesn't fit is left unwritten, so where a payload's bytes come from, and
 // how many they are, is known before the first is written.
 //
-// Proved: the length of a description is `length-of` (specs/Described.antt); what bytes a description stands for is
-// `bytes-of` there, and those who answer a description prove that it describes the payload (`Describes`).
+// Proved: the length of a description is `length-of` (specs/Described.antt), or `short-length` where that is enough; what
+// bytes a description stands for is `bytes-of` there, and those who answer a description prove that it describes the
+// payload (`Describes`).
 // Assumed: nothing but what each function's `requires` says.
 pub mod places; // places.rt: where a reader stands after it reads on
 pub mod tokens; // tokens.rt: tokens and errors as readers answer them
 
 use decimals::show_length;
 use definition::Item;
+use definition::Match;
 use definition::State;
 use entries::text_length;
 use positions::Cache;
 ghost use mathlib.Core.Path.{_≡_};
 ghost use Prim.Native.Nat.{_<_, _-_};
-ghost use Rattle.described.specs.Described.{length-of, Measurable};
+ghost use Rattle.described.specs.Described.{length-of, short-length, Listed, Measurable};
 
 // Where the bytes of a payload come from. Offsets are those of the text; `to` and `end` are the ends of the bytes.
 pub enum Payload {
@@ -112,5 +114,17 @@ pub fn length_of(name: &[u8], payload: Payload) -> usize
             contents,
             end,
         } => span(from, to) + span(contents, end),
+    }
+}
+
+// How many bytes a payload has that is a part of the text or a text of the tables; nothing for the others.
+pub fn short_length(payload: Payload) -> Match
+    requires { ⌜ Listed payload ⌝ }
+    ensures { λ r. ⌜ r ≡ short-length payload ⌝ }
+{
+    match payload {
+        Payload::Part { from, to } => Match::To(span(from, to)),
+        Payload::Text(k) => Match::To(text_length(k)),
+        _ => Match::Nothing,
     }
 }

@@ -1,3 +1,4 @@
 pub mod Prefix
 pub mod Chains
 pub mod Finds
+pub mod Lengths

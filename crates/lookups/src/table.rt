@@ -1,15 +1,18 @@
 // Whole lexemes looked up in the source's tables `keywords`, `constructors` and `uoperators`, one table behind the other and
-// each in its order. A keyword or operator is found by its key, from its first byte, its last byte and its length: of the words
-// of a table with the same key, at most four, each is compared (crate `spellings`). The three constructors are compared one by
-// one. A table is built anew in each function that reads it, so the places are small tables of bytes.
+// each in its order. Most identifiers are no keyword: a test by the first byte and the length settles four fifths of them. What
+// passes it, and an operator, is found by its key, from its first byte, its last byte and its length: of the words of a table
+// with the same key, at most four, each is compared (crate `spellings`). The three constructors are compared one by one. A
+// table is built anew in each function that reads it, so the places are small tables of bytes; the constants of a `match` are
+// not, so the lengths stand in one.
 // Proved: a look-up gives the place at which the definition's table has the lexeme, or says that it has it nowhere.
 // Assumed: nothing but what each function's `requires` says.
 use crate::Word;
 use spellings::is_word;
 ghost use mathlib.Core.Path.{_≡_};
+ghost use Prim.Native.Nat.{_<_};
 ghost use Rattle.definition.specs.Tables.{keywords, constructors, uoperators};
 ghost use Rattle.spellings.specs.Words.{spelled};
-ghost use Rattle.lookups.specs.Places.{key, place, Chain, seek};
+ghost use Rattle.lookups.specs.Places.{key, place, Chain, seek, lengths, may-be-keyword};
 
 // Behind each word, the next one with the same key; past the last word where there is none. Sixteen places to a row.
 const NEXT: [u8; 119] = *b"\
@@ -65,10 +68,60 @@ fn follow(id: &[u8], start: usize, stop: usize) -> Word
     Word::Nowhere
 }
 
+// How long the keywords are that begin with a byte of ASCII: a bit for each length.
+fn lengths(first: u8) -> u32
+    requires { ⌜ first < 128 ⌝ }
+    ensures { λ r. ⌜ r ≡ lengths first (spelled keywords) ⌝ }
+{
+    match first {
+        b'_' => 2,
+        b'a' => 76,
+        b'b' => 36,
+        b'c' => 48,
+        b'd' => 512,
+        b'e' => 728,
+        b'f' => 360,
+        b'i' => 2100164,
+        b'l' => 40,
+        b'm' => 96,
+        b'n' => 1560,
+        b'o' => 84,
+        b'p' => 128,
+        b'q' => 32,
+        b'r' => 2984,
+        b's' => 5152,
+        b't' => 56,
+        b'u' => 1216,
+        b'v' => 8,
+        b'w' => 16,
+        _ => 0,
+    }
+}
+
+// Whether a lexeme may be a keyword, by its first byte and its length: no keyword fails this. Lexemes that begin beyond ASCII
+// are rare, and pass.
+fn may_be_keyword(id: &[u8]) -> bool
+    ensures { λ r. ⌜ r ≡ may-be-keyword (now (id .entry)) ⌝ }
+{
+    if id.len() == 0 {
+        return false;
+    }
+    if 31 < id.len() {
+        return false;
+    }
+    if 128 <= id[0] {
+        return true;
+    }
+    (lengths(id[0]) >> id.len()) % 2 == 1
+}
+
 // The place of a keyword, the first of all words.
 pub fn keyword(id: &[u8]) -> Word
     ensures { λ r. ⌜ r ≡ place 0 (now (id .entry)) (spelled keywords) ⌝ }
 {
+    if !may_be_keyword(id) {
+        return Word::Nowhere;
+    }
     follow(id, KEYWORDS[key(id)] as usize, 86)
 }
 

@@ -15,12 +15,12 @@ ghost use mathlib.Core.List.{_∷_, _++_};
 ghost use Prim.Native.Nat.{_+_, _-_, _≤_};
 ghost use lib.ListN.{length};
 ghost use lib.Seq.{slice};
-ghost use Rattle.definition.specs.Basics.{ch};
+ghost use Rattle.definition.specs.Basics.{Bytes, ch};
 ghost use Rattle.definition.specs.Tables.{cps};
 ghost use Rattle.definition.specs.Numbers.{show};
 ghost use Rattle.lemmas.specs.Over.{over};
 ghost use Rattle.described.specs.Described.{bytes-of};
-ghost use Rattle.payloads.specs.Writable.{Writable};
+ghost use Rattle.payloads.specs.Writable.{Writable, ShortFits};
 
 // Writes `>` and a part of the text.
 fn write_greater(text: &[u8], from: usize, to: usize, out: &mut [u8])
@@ -92,5 +92,23 @@ pub fn write(text: &[u8], name: &[u8], classes: &[u8], payload: Payload, out: &m
             contents,
             end,
         } => write_parts(text, from, to, contents, end, out),
+    }
+}
+
+// Writes the bytes of a payload that is a part of the text or a text of the tables, `size` in number, to the front of the
+// buffer. Where there are none, as for a token that is its kind alone, the description is not looked at.
+pub fn write_short(text: &[u8], payload: Payload, size: usize, out: &mut [u8])
+    requires { ⌜ ShortFits (now text) payload size (now out) ⌝ }
+    ensures { λ r. ⌜ ((name f : Bytes) → now (out .exit) ≡ over (bytes-of (now (text .entry)) name f payload) (now (out .entry))) ⌝ }
+{
+    if size == 0 {
+        return;
+    }
+    match payload {
+        Payload::Part { from, to } => {
+            copy_part(text, from, to, out);
+        }
+        Payload::Text(k) => text_into(k, out),
+        _ => {}
     }
 }

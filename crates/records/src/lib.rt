@@ -2,12 +2,13 @@
 // lent buffer, and the rest of it keeps what it held. Assumed: nothing but that the buffer has room.
 use definition::Extra;
 use definition::Item;
+use definition::Pos;
 ghost use mathlib.Core.Path.{_≡_};
 ghost use Prim.Native.Nat.{_≤_};
 ghost use lib.ListN.{length};
 ghost use Rattle.definition.specs.Item.{mark, record-size, words};
 ghost use Rattle.lemmas.specs.Over.{over};
-ghost use Rattle.records.specs.Numbers.{extra-numbers};
+ghost use Rattle.records.specs.Numbers.{extra-numbers, numbers, plain-item};
 
 // Word 0 and words 9 to 14, which go by what an item holds besides its kind, its range and its payload.
 pub struct ExtraNumbers {
@@ -87,6 +88,38 @@ fn extra_numbers(extra: Extra) -> ExtraNumbers
     }
 }
 
+// Writes the sixteen numbers of a record.
+fn write_words(
+    kind: u32,
+    sp: Pos,
+    ep: Pos,
+    used: u32,
+    size: u32,
+    comments: u32,
+    last: ExtraNumbers,
+    out: &mut [u32],
+)
+    requires { ⌜ record-size ≤ length (now out) ⌝ }
+    ensures { λ r. ⌜ now (out .exit) ≡ over (numbers kind sp ep used size comments last) (now (out .entry)) ⌝ }
+{
+    out[0] = last.sort;
+    out[1] = kind;
+    out[2] = sp.line;
+    out[3] = sp.col;
+    out[4] = ep.line;
+    out[5] = ep.col;
+    out[6] = used;
+    out[7] = size;
+    out[8] = comments;
+    out[9] = last.tag;
+    out[10] = last.first;
+    out[11] = last.line;
+    out[12] = last.col;
+    out[13] = last.to_line;
+    out[14] = last.to_col;
+    out[15] = 0;
+}
+
 // Writes the record of an item whose payload begins at byte `used` of the payload buffer.
 pub fn write_record(item: Item, used: u32, out: &mut [u32])
     requires { ⌜ record-size ≤ length (now out) ⌝ }
@@ -96,20 +129,40 @@ pub fn write_record(item: Item, used: u32, out: &mut [u32])
     let sp = item.sp;
     let ep = item.ep;
     let last = extra_numbers(extra);
-    out[0] = last.sort;
-    out[1] = item.kind;
-    out[2] = sp.line;
-    out[3] = sp.col;
-    out[4] = ep.line;
-    out[5] = ep.col;
-    out[6] = used;
-    out[7] = item.length;
-    out[8] = item.comments;
-    out[9] = last.tag;
-    out[10] = last.first;
-    out[11] = last.line;
-    out[12] = last.col;
-    out[13] = last.to_line;
-    out[14] = last.to_col;
-    out[15] = 0;
+    write_words(
+        item.kind,
+        sp,
+        ep,
+        used,
+        item.length,
+        item.comments,
+        last,
+        out,
+    );
+}
+
+// Writes the record of a token that holds nothing besides its kind, its range and its payload. The parts come one by one,
+// so that no item is built for it.
+pub fn write_token(
+    kind: u32,
+    sp: Pos,
+    ep: Pos,
+    size: u32,
+    comments: u32,
+    used: u32,
+    out: &mut [u32],
+)
+    requires { ⌜ record-size ≤ length (now out) ⌝ }
+    ensures { λ r. ⌜ now (out .exit) ≡ over (words (plain-item kind sp ep size comments) used) (now (out .entry)) ⌝ }
+{
+    let last = ExtraNumbers {
+        sort: 1,
+        tag: 0,
+        first: 0,
+        line: 0,
+        col: 0,
+        to_line: 0,
+        to_col: 0,
+    };
+    write_words(kind, sp, ep, used, size, comments, last, out);
 }

@@ -1,7 +1,5 @@
--- The indices are literal, so that the sixteen stores are one, and its numbers are the definition's.
-use lib.ListN.{length-set}
+-- The numbers that are written are the definition's words of the item.
 use Rattle.records.proofs.RecordLaws.{record-written}
-use native.Mathlib.Omega.{arith}
 use borrow.Author.Needs.{needs}
 use Rattle.records.proofs.write_record.Statement.{statement}
 use Rattle.records.proofs.write_record.Tie as tie
@@ -9,82 +7,18 @@ use Rattle.records.proofs.write_record.Tie as tie
 extra-numbers-requires : tie.Need-extra-numbers-requires
 extra-numbers-requires c κs = search needs
 
-slice-write-out : tie.Need-slice-write-out
-slice-write-out c = search needs
-
-slice-write-out-2 : tie.Need-slice-write-out-2
-slice-write-out-2 c = simp length-set (omega (arith, c .before .before .before .before .pre))
-
-slice-write-out-3 : tie.Need-slice-write-out-3
-slice-write-out-3 c = simp length-set (omega (arith, c .before .before .before .before .pre))
-
-slice-write-out-4 : tie.Need-slice-write-out-4
-slice-write-out-4 c = simp length-set (omega (arith, c .before .before .before .before .pre))
-
-slice-write-out-5 : tie.Need-slice-write-out-5
-slice-write-out-5 c = simp length-set (omega (arith, c .before .before .before .before .pre))
-
-slice-write-out-6 : tie.Need-slice-write-out-6
-slice-write-out-6 c = simp length-set (omega (arith, c .before .before .before .before .pre))
-
-slice-write-out-7 : tie.Need-slice-write-out-7
-slice-write-out-7 c = simp length-set (omega (arith, c .before .before .before .before .pre))
-
-slice-write-out-8 : tie.Need-slice-write-out-8
-slice-write-out-8 c = simp length-set (omega (arith, c .before .before .before .before .pre))
-
-slice-write-out-9 : tie.Need-slice-write-out-9
-slice-write-out-9 c = simp length-set (omega (arith, c .before .before .before .before .pre))
-
-slice-write-out-10 : tie.Need-slice-write-out-10
-slice-write-out-10 c = simp length-set (omega (arith, c .before .before .before .before .pre))
-
-slice-write-out-11 : tie.Need-slice-write-out-11
-slice-write-out-11 c = simp length-set (omega (arith, c .before .before .before .before .pre))
-
-slice-write-out-12 : tie.Need-slice-write-out-12
-slice-write-out-12 c = simp length-set (omega (arith, c .before .before .before .before .pre))
-
-slice-write-out-13 : tie.Need-slice-write-out-13
-slice-write-out-13 c = simp length-set (omega (arith, c .before .before .before .before .pre))
-
-slice-write-out-14 : tie.Need-slice-write-out-14
-slice-write-out-14 c = simp length-set (omega (arith, c .before .before .before .before .pre))
-
-slice-write-out-15 : tie.Need-slice-write-out-15
-slice-write-out-15 c = simp length-set (omega (arith, c .before .before .before .before .pre))
-
-slice-write-out-16 : tie.Need-slice-write-out-16
-slice-write-out-16 c = simp length-set (omega (arith, c .before .before .before .before .pre))
+write-words-requires : tie.Need-write-words-requires
+write-words-requires c κs = search needs
 
 same-length : tie.Need-same-length
-same-length c = simp length-set
+same-length c = search needs
 
 returns : tie.Need-returns
 returns c =
-    let g = c .before .before .before .before in
-    record-written (g .args .item) (g .args .used) _ (g .args .out .now) (c .extra-numbers .ensures) (g .pre)
+    let d = c .before .before in
+    let g = d .before .before .before .before .before .before in
+    record-written (g .args .item) (g .args .used) _ (g .args .out .now) _ (d .before .before .extra-numbers .ensures) (d .write-words .ensures)
 
 pub write-record-spec : {M : Type 1} → statement M
 write-record-spec =
-    tie.close
-    (tie.spec
-    extra-numbers-requires
-    slice-write-out
-    slice-write-out-2
-    slice-write-out-3
-    slice-write-out-4
-    slice-write-out-5
-    slice-write-out-6
-    slice-write-out-7
-    slice-write-out-8
-    slice-write-out-9
-    slice-write-out-10
-    slice-write-out-11
-    slice-write-out-12
-    slice-write-out-13
-    slice-write-out-14
-    slice-write-out-15
-    slice-write-out-16
-    same-length
-    returns)
+    tie.close (tie.spec extra-numbers-requires write-words-requires same-length returns)
