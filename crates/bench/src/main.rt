@@ -1,5 +1,7 @@
 // Runs the lexer over standard input as many times as the first argument says, once where there is none, and writes how
-// many items one whole run gives, or REFUSED and the number. With a second argument, whatever it is, it only checks the
+// many items one whole run gives, or REFUSED and the number; in a second line the sum of all that stands in the buffers then.
+// Whatever a run writes is read for that sum: the compiler leaves out the writing of what nobody reads, and a lexer that
+// writes no records would be timed. With a second argument, whatever it is, it only checks the
 // text's UTF-8 so many times, and writes how many of its first bytes are legal: bench/measure sets that time
 // beside the lexer's. The classes are those of the file classes.bin in the working directory; a missing one counts as empty.
 // Proved: it ends and breaks nothing, and what it runs is `lexer::run`.
@@ -119,6 +121,24 @@ fn rounds() -> usize {
     number(&word[..length])
 }
 
+// The sum of the numbers of the records' buffer, modulo 2^64.
+fn sum_of_records(records: &[u32]) -> u64 {
+    let mut sum: u64 = 0;
+    for i in 0..records.len() {
+        sum = std::num::wrapping_add_u64(sum, records[i] as u64);
+    }
+    sum
+}
+
+// The sum of the bytes of the payload's buffer, modulo 2^64.
+fn sum_of_bytes(payload: &[u8]) -> u64 {
+    let mut sum: u64 = 0;
+    for i in 0..payload.len() {
+        sum = std::num::wrapping_add_u64(sum, payload[i] as u64);
+    }
+    sum
+}
+
 // Writes a number and a line end.
 fn say(n: u64) {
     io::print_decimal(STDOUT_FILENO, n);
@@ -149,4 +169,8 @@ fn main() {
         return;
     }
     say(last.items);
+    say(std::num::wrapping_add_u64(
+        sum_of_records(&records),
+        sum_of_bytes(&payload),
+    ));
 }

@@ -1,10 +1,11 @@
 // Document 01's run, over a text, on numbers and lent buffers. (Its `start` and class check are `state::start` and
-// `classes::check::class_check`; its tokens are written by `tokens::tokens`, any other item by `run_turns::turn`.)
+// `classes::check::class_check`; its tokens are written by `bursts::write_tokens`, any other item by `run_turns::turn`.)
 //
 // Proved: for every input `run` answers, and leaves both buffers, as the definition's `run` says, refusals included; and
 // for a run that isn't refused, demand 3 holds at every reading position. Assumed: nothing.
 use ascii::op_char_table;
 use ascii::symbolchar_table;
+use bursts::write_tokens;
 use definition::RunAnswer;
 use definition::State;
 use described::Place;
@@ -12,7 +13,6 @@ use positions::Cache;
 use refusals::refusal;
 use run_turns::Went;
 use run_turns::turn;
-use tokens::tokens;
 ghost use mathlib.Core.Path.{_≡_};
 ghost use Rattle.definition.specs.Run.{run-items, run};
 ghost use Rattle.definition.specs.Reading.{EveryReading};
@@ -43,7 +43,7 @@ fn run_items(
     let mut count: usize = 0;
     let mut used: usize = 0;
     loop {
-        let burst = tokens(
+        let burst = write_tokens(
             text, classes, &ops, &symbols, at, count, used, records, payload,
         );
         let last = burst.at;

@@ -1,6 +1,6 @@
 // What is done with a choice: the definition's rules, but for those of white space and line ends, which read nothing, and what
 // happens where none of the places was chosen. Most rules give a ruling (`ruled`), which is carried out where it is known
-// whether the token fits (crates `tokens` and `finishes`); those that read on from behind the choice, and characters, read
+// whether the token fits (crates `bursts` and `finishes`); those that read on from behind the choice, and characters, read
 // for themselves (`act`).
 //
 // Proved: a ruling stands for what the definition's rule gives, and `act` does what the definition's `act` does with the

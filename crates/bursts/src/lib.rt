@@ -31,7 +31,8 @@ ghost use Rattle.select.specs.Standing.{Lent};
 ghost use Rattle.described.specs.Described.{bytes-of};
 ghost use Rattle.records.specs.Numbers.{plain-item};
 ghost use Rattle.run_turns.specs.Running.{Between};
-ghost use Rattle.tokens.specs.Tokens.{PairFits, TokenAsks, RulingAsks, Puts, Leads};
+ghost use Rattle.rulings.specs.declared.Ruling.the-variants.{Token};
+ghost use Rattle.bursts.specs.Bursts.{PairFits, TokenAsks, RulingAsks, Puts, Leads};
 
 // Behind a run's tokens: where the run stands, and what stands ahead, behind white space at `here`.
 pub struct Burst {
@@ -167,7 +168,7 @@ fn put_ruling(
 
 // Writes the tokens that stand one behind the other from `start` on, between comments, until something else stands ahead or
 // a buffer is full.
-pub fn tokens(
+pub fn write_tokens(
     text: &[u8],
     classes: &[u8],
     ops: &[bool; 128],

@@ -29,8 +29,8 @@ use Rattle.finishes.proofs.Spanning.{span-reads}
 use Rattle.run_turns.specs.declared.Went.the-variants.{Wrote}
 use Rattle.run_turns.specs.Running.{writing, Ran}
 use Rattle.run_turns.proofs.TurnLaws.{wrote-ran}
-use Rattle.tokens.specs.Tokens.{PairFits, Writes, TokenAsks, RulingAsks, Written, Puts}
-use Rattle.tokens.specs.declared.Put.the-variants as put-variants
+use Rattle.bursts.specs.Bursts.{PairFits, Writes, TokenAsks, RulingAsks, Written, Puts}
+use Rattle.bursts.specs.declared.Put.the-variants as put-variants
 
 -- ---- what writing asks for
 

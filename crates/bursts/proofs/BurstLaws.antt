@@ -32,10 +32,10 @@ use Rattle.select.specs.Standing.{Lent}
 use Rattle.run_turns.specs.declared.Went.the-variants.{Wrote}
 use Rattle.run_turns.specs.Running.{writing, Ran, Between, StandsAhead, Going}
 use Rattle.run_turns.proofs.RunLaws.{between-on, going-on}
-use Rattle.tokens.specs.Tokens.{Writes, Puts, Leads}
-use Rattle.tokens.specs.declared.Put.the-variants as put-variants
-use Rattle.tokens.specs.declared.Burst.{Burst}
-use Rattle.tokens.proofs.TokenLaws.{ruling-ran}
+use Rattle.bursts.specs.Bursts.{Writes, Puts, Leads}
+use Rattle.bursts.specs.declared.Put.the-variants as put-variants
+use Rattle.bursts.specs.declared.Burst.{Burst}
+use Rattle.bursts.proofs.TokenLaws.{ruling-ran}
 
 -- ---- what stands ahead
 

@@ -23,9 +23,9 @@ use Rattle.rulings.specs.Rulings.{Spans}
 use Rattle.rulings.specs.declared.Ruling.{Ruling}
 use Rattle.rulings.specs.declared.Ruling.the-variants.{Token, Error, LineComment}
 use Rattle.run_turns.specs.Running.{Going, StandsAhead}
-use Rattle.tokens.specs.declared.Put.{Put}
-use Rattle.tokens.specs.declared.Put.the-variants as put-variants
-use Rattle.tokens.specs.declared.Burst.{Burst}
+use Rattle.bursts.specs.declared.Put.{Put}
+use Rattle.bursts.specs.declared.Put.the-variants as put-variants
+use Rattle.bursts.specs.declared.Burst.{Burst}
 
 -- a token's record and its short payload of `size` bytes fit behind what is written
 pub record PairFits (s : Bytes) (p : Payload) (size first used : ℕ) (rs : List ℕ) (ps : Bytes) : Type 0 where
