@@ -12,7 +12,7 @@ use denote.Enum.Declared.{tagOf}
 use lib.Dec.{ltb, leb, eqb}
 use lib.ListN.{length, getD, drop}
 use lib.Seq.{getD-drop}
-use borrow.Author.Tests.{lt-ltb, leb-false}
+use borrow.Author.Tests.{lt-ltb, le-ltb, leb-false}
 use Rattle.definition.specs.Basics.{Bytes, ch, between}
 use Rattle.definition.specs.Utf8.{encode, sequence-at}
 use Rattle.definition.specs.Text.{with-char, byte-has, star}
@@ -174,6 +174,10 @@ module _ (p : ℕ → Bool) (small : Small p) (s : Bytes) (i : ℕ) where
               false≢true (sym e ∙ yes)
       go Bad q = star-none p s i (rw q tt)
       go End q = star-none p s i (rw q tt)
+
+  -- Nor does a run of a character or more begin there.
+  pub plus-stop : byte-has p s i ≡ false → plus p s i ≡ Nothing
+  plus-stop e = rw (plus-is p s i, byte-stop e, le-ltb i i (omega arith))
 
 -- ---- identifiers
 

@@ -1,5 +1,5 @@
--- What is computed over the definition's tables: no keyword-operator word begins another, which two bytes the words begin with, and every word
--- fits its row. Rests on the laws of tables.
+-- What is computed over the definition's tables: no keyword-operator word begins another, which two bytes the early literals begin with, and every
+-- word fits its row. Rests on the laws of tables.
 use Prim.Native.Nat.{ℕ, _<_}
 use mathlib.Core.Path.{_≡_, refl}
 use mathlib.Core.Bool.{true}
@@ -8,7 +8,7 @@ use lib.ListN.{length, getD}
 use Rattle.definition.specs.Utf8.{encode, encode-all}
 use Rattle.definition.specs.Chars.{count-up}
 use Rattle.definition.specs.Tables.{cps, early-literals, kw-op-rules}
-use Rattle.words.specs.Rows.{Row, numbered, only-rows, early-pair, kw-op-pair}
+use Rattle.words.specs.Rows.{Row, numbered, only-rows, early-pair}
 use Rattle.words.proofs.RowLaws.{no-row, word-at, is-empty, is-short, all-begin, touches}
 use Rattle.words.proofs.TableLaws.{all-short, same-each}
 
@@ -35,19 +35,14 @@ unfolding early-literals cps encode-all encode
 early-long = refl
 
 -- and begins with two bytes that one may begin with.
-pub early-pairs : (b : ℕ) → all-begin early-pair b early ≡ true
+pub early-pairs : all-begin early-pair early ≡ true
 unfolding early-literals cps encode-all encode
-early-pairs b = refl
+early-pairs = refl
 
--- Each keyword-operator word has a byte or more,
+-- Each keyword-operator word has a byte or more.
 pub kw-long : only-rows (λ (r : Row). is-empty (r .1)) kw-ops ≡ []
 unfolding kw-op-rules cps encode-all encode
 kw-long = refl
-
--- and begins with two bytes that one may begin with, whatever is behind the semicolon.
-pub kw-pairs : (b : ℕ) → all-begin kw-op-pair b kw-ops ≡ true
-unfolding kw-op-rules cps encode-all encode
-kw-pairs b = refl
 
 -- ---- how many rows there are
 

@@ -18,7 +18,7 @@ use Rattle.definition.specs.Select.{none-at, keep, found, try-words}
 use Rattle.definition.specs.declared.Choice.{Choice}
 use Rattle.definition.specs.declared.Match.{Match}
 use Rattle.definition.specs.declared.Match.the-variants.{To, Nothing}
-use Rattle.lemmas.proofs.Cases.{by-outcome, by-test, by-order, by-if-lt, both}
+use Rattle.lemmas.proofs.Cases.{by-outcome, by-test, by-order, by-if-lt, both, never}
 use Rattle.progress.proofs.Walks.{byte-passes}
 use Rattle.peeks.proofs.ByteLaws.{has-within, has-past}
 use Rattle.words.specs.Rows.{Row, numbered, try-rows, first-fit, only-rows, starts-with, starts-two}
@@ -120,32 +120,32 @@ is-short [] = true
 is-short (c ∷ []) = true
 is-short (c ∷ d ∷ l) = false
 
--- a word of a byte or more, whose first two pass a test; b is the second where it has but one
-abbrev begins-two : (ℕ → ℕ → Bool) → ℕ → Bytes → Bool
-begins-two t b [] = false
-begins-two t b (c ∷ []) = t c b
-begins-two t b (c ∷ d ∷ l) = t c d
+-- a word of two bytes or more, whose first two pass a test
+abbrev begins-two : (ℕ → ℕ → Bool) → Bytes → Bool
+begins-two t [] = false
+begins-two t (c ∷ []) = false
+begins-two t (c ∷ d ∷ l) = t c d
 
 -- the words of all rows are such
-abbrev pub all-begin : (ℕ → ℕ → Bool) → ℕ → List Row → Bool
-all-begin t b [] = true
-all-begin t b (r ∷ rs) = begins-two t b (r .1) && all-begin t b rs
+abbrev pub all-begin : (ℕ → ℕ → Bool) → List Row → Bool
+all-begin t [] = true
+all-begin t (r ∷ rs) = begins-two t (r .1) && all-begin t rs
 
 -- Then a word that may stand where the bytes a and b do shows that these pass it,
-begins-passes : (t : ℕ → ℕ → Bool) (a b : ℕ) (w : Bytes) → begins-two t b w ≡ true → starts-two a b w ≡ true → t a b ≡ true
-begins-passes t a b [] e q = absurd (false≢true e)
-begins-passes t a b (c ∷ []) e q = sym (ap (λ (x : ℕ). t x b) (eqb-true c a q)) ∙ e
+begins-passes : (t : ℕ → ℕ → Bool) (a b : ℕ) (w : Bytes) → begins-two t w ≡ true → starts-two a b w ≡ true → t a b ≡ true
+begins-passes t a b [] e q = never e
+begins-passes t a b (c ∷ []) e q = never e
 begins-passes t a b (c ∷ d ∷ l) e q =
     let h = both (eqb c a) (eqb d b) q in
     sym (ap (λ (x : ℕ). t x b) (eqb-true c a (h .0))) ∙ sym (ap (t c) (eqb-true d b (h .1))) ∙ e
 
 -- so none may stand where two bytes do that don't.
-pub none-begins : (t : ℕ → ℕ → Bool) (a b : ℕ) (rs : List Row) → all-begin t b rs ≡ true → t a b ≡ false → only-rows (λ r. starts-two a b (r .1)) rs ≡ []
+pub none-begins : (t : ℕ → ℕ → Bool) (a b : ℕ) (rs : List Row) → all-begin t rs ≡ true → t a b ≡ false → only-rows (λ r. starts-two a b (r .1)) rs ≡ []
 none-begins t a b [] e n = refl
 none-begins t a b (r ∷ rs) e n =
-    let g = both (begins-two t b (r .1)) (all-begin t b rs) e in
+    let g = both (begins-two t (r .1)) (all-begin t rs) e in
     by-outcome (starts-two a b (r .1))
-    (λ q. absurd (false≢true (sym n ∙ begins-passes t a b (r .1) (g .0) q)))
+    (λ q. never (sym n ∙ begins-passes t a b (r .1) (g .0) q))
     (λ q. rw (q, only-rows) (none-begins t a b rs (g .1) n))
 
 -- a word may stand where the byte b doesn't

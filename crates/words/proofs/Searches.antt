@@ -1,22 +1,28 @@
--- What the code's searches find is what trying every word of the definition's table gives: nothing where two bytes begin no word, and
--- the first keyword operator that fits. Rests on the laws of rows and on what is computed.
+-- What the code's searches find is what trying every word of the definition's table gives: nothing where two bytes begin no early literal,
+-- nothing where a keyword operator's word would have no operator character behind it, and the first keyword operator that fits. Rests on the
+-- laws of rows and of runs, and on what is computed.
 use Prim.Native.Nat.{ℕ, _+_, _≤_, _<_}
 use mathlib.Core.Path.{_≡_, sym, ap, _∙_}
-use mathlib.Core.Bool.{Bool, true, false, false≢true}
+use mathlib.Core.Logic.{_≢_}
+use mathlib.Core.Bool.{Bool, false, not, _&&_}
 use mathlib.Core.List.{List, [], _∷_}
 use native.Mathlib.Omega.{arith}
+use lib.Dec.{eqb}
 use lib.ListN.{length, getD}
+use borrow.Author.Tests.{not-false, eqb-true}
 use Rattle.definition.specs.Basics.{Bytes}
+use Rattle.definition.specs.Text.{byte-has}
 use Rattle.definition.specs.Chars.{is-op-char}
-use Rattle.definition.specs.Tables.{Entry, early-literals, kw-op-rules}
+use Rattle.definition.specs.Tables.{early-literals, kw-op-rules}
 use Rattle.definition.specs.Matchers.{_then_, match-lit, plus}
 use Rattle.definition.specs.Select.{none-at, try-words}
 use Rattle.definition.specs.declared.Choice.{Choice}
 use Rattle.definition.specs.declared.Match.{Match}
 use Rattle.definition.specs.declared.Match.the-variants.{To, Nothing}
-use Rattle.lemmas.proofs.Cases.{by-found}
+use Rattle.lemmas.proofs.Cases.{by-found, by-outcome}
 use Rattle.progress.proofs.Matches.{plus-ends}
-use Rattle.words.specs.Rows.{Row, numbered, try-rows, first-fit, starts-two, early-pair, kw-op-pair}
+use Rattle.scan.proofs.RunLaws.{small-op-char, plus-stop}
+use Rattle.words.specs.Rows.{Row, try-rows, first-fit, starts-with, starts-two, early-pair, Reach}
 use Rattle.words.proofs.RowLaws.{
   no-row,
   word-at,
@@ -27,9 +33,10 @@ use Rattle.words.proofs.RowLaws.{
   row-alone,
   is-empty,
   is-short,
-  all-begin,
-  other-two,
   none-begins,
+  past-end,
+  other-start,
+  other-two,
   past-two,
   touches,
   lit-end,
@@ -38,7 +45,7 @@ use Rattle.words.proofs.RowLaws.{
   fit-none,
 }
 use Rattle.words.proofs.TableLaws.{own-number}
-use Rattle.words.proofs.Computed.{early-long, early-pairs, kw-ops, kw-long, kw-pairs, kw-count, kw-entries, kw-apart}
+use Rattle.words.proofs.Computed.{early, early-long, early-pairs, kw-ops, kw-long, kw-count, kw-entries, kw-apart}
 
 module _ (s : Bytes) (i : ℕ) where
   -- ---- keyword operators
@@ -86,42 +93,38 @@ module _ (s : Bytes) (i : ℕ) where
         chosen : {x y : ℕ} → x ≡ y → _≡_ {A = Choice} (record { place = 12; end = e; word = y }) (record { place = 12; end = e; word = x })
         chosen z = rw z
 
-  -- ---- where no word begins
+  -- Past the end no word is.
+  pub kw-past : length s ≤ i → kw-choice ≡ none-at i
+  kw-past h = all-left i 12 kw-match (λ r. is-empty (r .1)) (λ r t. kw-nothing (r .1) (past-end s i h (r .1) t)) kw-op-rules kw-long
 
-  -- Where no word of a table begins with the text's two bytes nothing is chosen.
-  none-two : (place : ℕ) (m : Bytes → Match) → ((w : Bytes) → match-lit s w i ≡ Nothing → m w ≡ Nothing) → (t : ℕ → ℕ → Bool) (es : List Entry)
-      → ((b : ℕ) → all-begin t b (numbered 0 es) ≡ true) → i < length s → t (getD s i 0) (getD s (i + 1) 0) ≡ false
-      → try-words i place m 0 es (none-at i) ≡ none-at i
-  none-two place m none t es pairs h e =
-      let a = getD s i 0 in
-      let b = getD s (i + 1) 0 in
-      all-left i place m (λ r. starts-two a b (r .1)) (λ r u. none (r .1) (other-two s i h (r .1) u)) es (none-begins t a b (numbered 0 es) (pairs b) e)
+  -- Where each word that begins with the text's byte would end at i + n, and no operator character stands there, nothing is chosen.
+  pub kw-reach-none : {n : ℕ} → i < length s → Reach (getD s i 0) n → n ≢ 0 → byte-has is-op-char s (i + n) ≡ false → kw-choice ≡ none-at i
+  kw-reach-none {n} h r z e = all-left i 12 kw-match (λ r. starts-with (getD s i 0) (r .1) && not (eqb (length (r .1)) n)) (λ r. missing (r .1)) kw-op-rules (r .each z)
+    where
+      -- A word of n bytes has no operator character behind it,
+      short : (w : Bytes) → length w ≡ n → kw-match w ≡ Nothing
+      short w q =
+          by-found (match-lit s w i)
+          (λ j t. let z : j ≡ i + n = omega (arith, lit-end s w i t) in rw (t, z) (plus-stop is-op-char small-op-char s (i + n) e))
+          (kw-nothing w)
 
-  -- So of the early literals,
+      -- and one that begins with another byte isn't there.
+      missing : (w : Bytes) → starts-with (getD s i 0) w && not (eqb (length w) n) ≡ false → kw-match w ≡ Nothing
+      missing w t =
+          by-outcome (starts-with (getD s i 0) w)
+          (λ b. short w (eqb-true (length w) n (not-false _ (sym (ap (λ (x : Bool). x && not (eqb (length w) n)) b) ∙ t))))
+          (λ b. kw-nothing w (other-start s i h w b))
+
+  -- ---- early literals
+
+  -- Where no early literal begins with the text's two bytes nothing is chosen.
   pub early-none : i < length s → early-pair (getD s i 0) (getD s (i + 1) 0) ≡ false
       → try-words i 1 (λ w. match-lit s w i) 0 early-literals (none-at i) ≡ none-at i
-  early-none = none-two 1 (λ w. match-lit s w i) (λ w q. q) early-pair early-literals early-pairs
+  early-none h e =
+      let a = getD s i 0 in
+      let b = getD s (i + 1) 0 in
+      all-left i 1 (λ w. match-lit s w i) (λ r. starts-two a b (r .1)) (λ r. other-two s i h (r .1)) early-literals (none-begins early-pair a b early early-pairs e)
 
-  -- and of the keyword operators.
-  pub kw-begins-none : i < length s → kw-op-pair (getD s i 0) (getD s (i + 1) 0) ≡ false → kw-choice ≡ none-at i
-  kw-begins-none = none-two 12 kw-match kw-nothing kw-op-pair kw-op-rules kw-pairs
-
-  -- Nothing is chosen at the text's last byte either, nor past it: each early literal has two bytes or more,
+  -- Nor at the text's last byte or past it: each has two bytes or more.
   pub early-past : length s ≤ i + 1 → try-words i 1 (λ w. match-lit s w i) 0 early-literals (none-at i) ≡ none-at i
   early-past h = all-left i 1 (λ w. match-lit s w i) (λ r. is-short (r .1)) (λ r t. past-two s i h (r .1) t) early-literals early-long
-
-  -- and a keyword operator has a byte or more, and an operator character behind it.
-  pub kw-past : length s ≤ i + 1 → kw-choice ≡ none-at i
-  kw-past h = all-left i 12 kw-match (λ r. is-empty (r .1)) (λ r t. last (r .1) t) kw-op-rules kw-long
-    where
-      -- Past the end there is no operator character.
-      behind : (j : ℕ) → length s ≤ j → plus is-op-char s j ≡ Nothing
-      behind j l = by-found (plus is-op-char s j) (λ e q. let o = plus-ends s is-op-char j .at q in absurd (omega (arith, o .past, o .within))) (λ q. q)
-
-      -- So a word that reaches it has none behind it.
-      last : (w : Bytes) → is-empty w ≡ false → kw-match w ≡ Nothing
-      last [] t = absurd (false≢true (sym t))
-      last (c ∷ w) t =
-          by-found (match-lit s (c ∷ w) i)
-          (λ j q. ap (λ (m : Match). m then plus is-op-char s) q ∙ behind j (omega (arith, lit-end s (c ∷ w) i q)))
-          (kw-nothing (c ∷ w))

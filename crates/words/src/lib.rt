@@ -8,6 +8,7 @@ use definition::Choice;
 use definition::Match;
 use fixed_chars::between;
 use peeks::byte_is;
+use scan::op_char_at;
 use scan::plus_op_char;
 ghost use mathlib.Core.Path.{_≡_};
 ghost use mathlib.Core.List.{[]};
@@ -19,7 +20,7 @@ ghost use Rattle.definition.specs.Tables.{cps, early-literals, kw-op-rules};
 ghost use Rattle.definition.specs.Matchers.{_then_, match-lit, plus};
 ghost use Rattle.definition.specs.Select.{none-at, keep, try-words};
 ghost use Rattle.definition.specs.Token.{entry};
-ghost use Rattle.words.specs.Rows.{numbered, padded, first-fit, early-pair, kw-op-pair};
+ghost use Rattle.words.specs.Rows.{numbered, padded, first-fit, early-pair, Reach};
 
 // "Fixed literal tokens that come first": the words, padded to the longest, with their lengths and kinds.
 const EARLY: [[u8; 20]; 15] = [
@@ -208,34 +209,26 @@ pub fn kw_op_word(text: &[u8], i: usize) -> usize
     k
 }
 
-// Whether a keyword-operator word may begin with two bytes: none does that fail. Where the first is no letter that begins one
-// they pass: a semicolon is a word by itself, and the words beyond ASCII are rare.
-fn kw_op_begins(a: u8, b: u8) -> bool
-    ensures { λ r. ⌜ r ≡ kw-op-pair a b ⌝ }
+// How long the keyword-operator word is that begins with a byte of ASCII: each begins but one. 0 for a byte that begins none,
+// and for all bytes beyond ASCII, where such words are rare.
+fn kw_op_reach(a: u8) -> usize
+    ensures { λ r. ⌜ Reach a r ⌝ }
 {
-    if a == b'm' {
-        return b == b'a';
+    match a {
+        b'm' => 5,
+        b'i' => 2,
+        b'l' => 3,
+        b'e' => 6,
+        b'f' => 6,
+        b'a' => 3,
+        b';' => 1,
+        _ => 0,
     }
-    if a == b'i' {
-        return b == b'f';
-    }
-    if a == b'l' {
-        return b == b'e';
-    }
-    if a == b'e' {
-        return b == b'x';
-    }
-    if a == b'f' {
-        return b == b'o';
-    }
-    if a == b'a' {
-        return b == b'n';
-    }
-    true
 }
 
 // A keyword-operator word at i with operator characters behind it. Many identifiers begin with a letter that such a word
-// begins with, so the table is built only where two bytes may begin one.
+// begins with, and few of them have an operator character where it would end: only for those, and beyond ASCII, is the table
+// built.
 pub fn kw_op(text: &[u8], table: &[bool; 128], i: usize) -> Choice
     requires { ⌜ now table ≡ ascii-table op-char-cps ⌝ }
     ensures { λ r. ⌜ r ≡ try-words i 12 (λ w. match-lit (now (text .entry)) w i then plus is-op-char (now (text .entry))) 0 kw-op-rules (none-at i) ⌝ }
@@ -243,11 +236,11 @@ pub fn kw_op(text: &[u8], table: &[bool; 128], i: usize) -> Choice
     if text.len() <= i {
         return nothing(i);
     }
-    if text.len() <= i + 1 {
-        return nothing(i);
-    }
-    if !kw_op_begins(text[i], text[i + 1]) {
-        return nothing(i);
+    let n = kw_op_reach(text[i]);
+    if n != 0 {
+        if !op_char_at(text, table, i + n) {
+            return nothing(i);
+        }
     }
     let word = kw_op_word(text, i);
     if 9 <= word {

@@ -1,12 +1,12 @@
--- `kw_op` is what trying every keyword operator gives: none is there where two bytes of the text begin none, and no word begins another, so
--- the first that fits is the only one. It stands in the text, so the sum fits.
+-- `kw_op` is what trying every keyword operator gives: none is there where the word that the text's byte begins would have no operator
+-- character behind it, and no word begins another, so the first that fits is the only one. It stands in the text, so the sum fits.
 use mathlib.Core.Path.{sym, _∙_}
 use borrow.Author.Tests.{not-true}
 use Rattle.definition.specs.Utf8.{encode, encode-all}
 use Rattle.definition.specs.Tables.{cps, kw-op-rules}
 use Rattle.words.proofs.TableLaws.{row-length, row-short}
 use Rattle.words.proofs.Computed.{kw-ops, kw-short}
-use Rattle.words.proofs.Searches.{kw-past, kw-begins-none, kw-none, kw-no, kw-yes}
+use Rattle.words.proofs.Searches.{kw-past, kw-reach-none, kw-none, kw-no, kw-yes}
 use borrow.Author.Needs.{needs}
 use native.Mathlib.Omega.{arith}
 use Rattle.words.proofs.kw_op.Statement.{statement}
@@ -16,45 +16,38 @@ nothing-requires : tie.Need-nothing-requires
 nothing-requires c κs = search needs
 
 returns : tie.Need-returns
-returns c = c .nothing .ensures ∙ sym (kw-past _ _ (omega (arith, c .before .if1 .taken)))
+returns c = c .nothing .ensures ∙ sym (kw-past _ _ (c .before .if1 .taken))
 
-add-if2 : tie.Need-add-if2
-add-if2 c = search needs
+shared-slice-read-kw-op-reach : tie.Need-shared-slice-read-kw-op-reach
+shared-slice-read-kw-op-reach c = search needs
+
+kw-op-reach-requires : tie.Need-kw-op-reach-requires
+kw-op-reach-requires c κs = search needs
+
+add-op-char-at : tie.Need-add-op-char-at
+add-op-char-at c = search needs
+
+op-char-at-requires : tie.Need-op-char-at-requires
+op-char-at-requires c κs = search needs
 
 nothing-requires-2 : tie.Need-nothing-requires-2
 nothing-requires-2 c κs = search needs
 
 returns-2 : tie.Need-returns-2
-returns-2 c = c .nothing2 .ensures ∙ sym (kw-past _ _ (c .before .if2 .taken))
+returns-2 c =
+    let o = c .before .before in
+    let r = o .before .before in
+    c .nothing2 .ensures
+    ∙ sym (kw-reach-none _ _ (r .before .before .if1 .left) (r .kw-op-reach .ensures) (o .before .if2 .taken) (sym (o .op-char-at .ensures) ∙ not-true _ (c .before .if3 .taken)))
 
-shared-slice-read-kw-op-begins : tie.Need-shared-slice-read-kw-op-begins
-shared-slice-read-kw-op-begins c = search needs
-
-add-kw-op-begins : tie.Need-add-kw-op-begins
-add-kw-op-begins c = search needs
-
-shared-slice-read-kw-op-begins-2 : tie.Need-shared-slice-read-kw-op-begins-2
-shared-slice-read-kw-op-begins-2 c = search needs
-
-kw-op-begins-requires : tie.Need-kw-op-begins-requires
-kw-op-begins-requires c κs = search needs
+kw-op-word-requires : tie.Need-kw-op-word-requires
+kw-op-word-requires c κs = search needs
 
 nothing-requires-3 : tie.Need-nothing-requires-3
 nothing-requires-3 c κs = search needs
 
 returns-3 : tie.Need-returns-3
-returns-3 c =
-    let p = c .before .before in
-    c .nothing3 .ensures ∙ sym (kw-begins-none _ _ (p .before .before .before .before .if1 .left) (sym (p .kw-op-begins .ensures) ∙ not-true _ (c .before .if3 .taken)))
-
-kw-op-word-requires : tie.Need-kw-op-word-requires
-kw-op-word-requires c κs = search needs
-
-nothing-requires-4 : tie.Need-nothing-requires-4
-nothing-requires-4 c κs = search needs
-
-returns-4 : tie.Need-returns-4
-returns-4 c = c .nothing4 .ensures ∙ sym (kw-none _ _ (c .before .before .kw-op-word .ensures) (c .before .if4 .taken))
+returns-3 c = c .nothing3 .ensures ∙ sym (kw-none _ _ (c .before .before .kw-op-word .ensures) (c .before .if4 .taken))
 
 mul-plus-op-char : tie.Need-mul-plus-op-char
 mul-plus-op-char c = search needs
@@ -77,19 +70,19 @@ enum-known-end c = search needs
 enum-told : tie.Need-enum-told
 enum-told c = search needs
 
-nothing-requires-5 : tie.Need-nothing-requires-5
-nothing-requires-5 c κs = search needs
+nothing-requires-4 : tie.Need-nothing-requires-4
+nothing-requires-4 c κs = search needs
+
+returns-4 : tie.Need-returns-4
+unfolding kw-op-rules cps encode-all encode
+returns-4 c =
+    let p = c .before .before .before in
+    let k = p .before .before .kw-op-word in
+    c .nothing4 .ensures ∙ sym (kw-no _ _ (k .ensures) (p .before .if4 .left) (row-length kw-ops (k .result)) (sym (p .plus-op-char .ensures) ∙ c .before .enum-told .given .1))
 
 returns-5 : tie.Need-returns-5
 unfolding kw-op-rules cps encode-all encode
 returns-5 c =
-    let p = c .before .before .before in
-    let k = p .before .before .kw-op-word in
-    c .nothing5 .ensures ∙ sym (kw-no _ _ (k .ensures) (p .before .if4 .left) (row-length kw-ops (k .result)) (sym (p .plus-op-char .ensures) ∙ c .before .enum-told .given .1))
-
-returns-6 : tie.Need-returns-6
-unfolding kw-op-rules cps encode-all encode
-returns-6 c =
     let p = c .before .before .before in
     let k = p .before .before .kw-op-word in
     sym (kw-yes _ _ (k .ensures) (p .before .if4 .left) (row-length kw-ops (k .result)) (sym (p .plus-op-char .ensures) ∙ c .before .end .given .1))
@@ -100,24 +93,21 @@ kw-op-spec =
     (tie.spec
     nothing-requires
     returns
-    add-if2
+    shared-slice-read-kw-op-reach
+    kw-op-reach-requires
+    add-op-char-at
+    op-char-at-requires
     nothing-requires-2
     returns-2
-    shared-slice-read-kw-op-begins
-    add-kw-op-begins
-    shared-slice-read-kw-op-begins-2
-    kw-op-begins-requires
+    kw-op-word-requires
     nothing-requires-3
     returns-3
-    kw-op-word-requires
-    nothing-requires-4
-    returns-4
     mul-plus-op-char
     array-read-plus-op-char
     add-plus-op-char
     plus-op-char-requires
     enum-known-end
     enum-told
-    nothing-requires-5
-    returns-5
-    returns-6)
+    nothing-requires-4
+    returns-4
+    returns-5)
