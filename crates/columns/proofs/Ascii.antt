@@ -1,10 +1,11 @@
 -- Over bytes that are all ASCII the count of characters is that of the bytes, so that a column goes on from a known one by as much as
--- the offset does; and the loop that looks whether bytes are ASCII by the sum of their high bits. Rests on the laws of the count and
--- of columns.
-use Prim.Native.Nat.{ℕ, zero, suc, _+_, _-_, _/_, _≤_, _<_}
+-- the offset does; and the loop that looks whether bytes are ASCII by their bits together. Rests on the laws of the count, of columns
+-- and of bits.
+use Prim.Native.Nat.{ℕ, zero, suc, _+_, _-_, _≤_, _<_}
 use native.Mathlib.Omega.{arith}
 use mathlib.Core.Path.{_≡_, refl, sym, _∙_}
 use lib.ListN.{getD}
+use lib.Bits.{bitOr, and-le-l, and-le-r, or-add-and}
 use borrow.Author.Count.{below-more}
 use Rattle.definition.specs.Basics.{Bytes}
 use Rattle.definition.specs.Position.{Weight, one-each, weight-at, count-chars}
@@ -53,25 +54,31 @@ asked-on {w} {s} {st} {known} {i} {j} c e a b = record {
   to = b .to;
 }
 
--- ---- the loop: `high` is at most the k bytes from i on, and where it is 0 they are all ASCII
+-- ---- the loop: where the bits of the k bytes from i on are together below 128, all those bytes are ASCII
 
-pub record Highs (s : Bytes) (i high k : ℕ) : Type 0 where
+-- a byte is at most its bits together with others
+or-left : (a b : ℕ) → a ≤ bitOr a b
+or-left a b = omega (arith, or-add-and a b, and-le-r a b)
+
+or-right : (a b : ℕ) → b ≤ bitOr a b
+or-right a b = omega (arith, or-add-and a b, and-le-l a b)
+
+pub record Joined (s : Bytes) (i bits k : ℕ) : Type 0 where
   pub within : k ≤ 64
-  pub small : high ≤ k
-  pub none : high ≡ 0 → Ascii s i (i + k)
+  pub ascii : bits < 128 → Ascii s i (i + k)
 
 module _ (s : Bytes) (i : ℕ) where
-  pub highs-start : Highs s i 0 0
-  highs-start = record { within = omega arith; small = omega arith; none = λ _ k p q. absurd (omega arith) }
+  pub joined-starts : Joined s i 0 0
+  joined-starts = record { within = omega arith; ascii = λ _ k p q. absurd (omega arith) }
 
-  pub highs-go-on : (high k : ℕ) → k < 64 → getD s (i + k) 0 < 256 → Highs s i high k → Highs s i (high + getD s (i + k) 0 / 128) (k + 1)
-  highs-go-on high k l b h =
-      let m = h .small in
+  pub joined-goes-on : (bits k : ℕ) → k < 64 → Joined s i bits k → Joined s i (bitOr bits (getD s (i + k) 0)) (k + 1)
+  joined-goes-on bits k l h =
+      let before : bits ≤ bitOr bits (getD s (i + k) 0) = or-left bits (getD s (i + k) 0) in
+      let here : getD s (i + k) 0 ≤ bitOr bits (getD s (i + k) 0) = or-right bits (getD s (i + k) 0) in
       record {
         within = omega arith;
-        small = omega arith;
-        none = λ z j p q. below-more (λ (n : ℕ). i ≤ n → getD s n 0 < 128) (i + k) (λ n y x. h .none (omega arith) n x y) (λ _. omega arith) j (omega arith) p;
+        ascii = λ z j p q. below-more (λ (n : ℕ). i ≤ n → getD s n 0 < 128) (i + k) (λ n y x. h .ascii (omega arith) n x y) (λ _. omega arith) j (omega arith) p;
       }
 
-  pub highs-end : (high k : ℕ) → 64 ≤ k → Highs s i high k → high ≡ 0 → Ascii s i (i + 64)
-  highs-end high k l h z j p q = h .none z j p (omega (arith, h .within))
+  pub joined-ends : (bits k : ℕ) → 64 ≤ k → Joined s i bits k → bits < 128 → Ascii s i (i + 64)
+  joined-ends bits k l h z j p q = h .ascii z j p (omega (arith, h .within))

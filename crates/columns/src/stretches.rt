@@ -13,17 +13,17 @@ ghost use Rattle.definition.specs.Position.{one-each};
 ghost use Rattle.positions.specs.Columns.{Asked, column-at};
 ghost use Rattle.columns.specs.Stretches.{Ascii, Plain, Covers};
 
-// Whether the 64 bytes from i on are all ASCII: the sum of their high bits, in a loop without a way out, which the
+// Whether the 64 bytes from i on are all ASCII: the bits of all of them together, in a loop without a way out, which the
 // compiler turns into a few instructions.
 fn ascii_block(text: &[u8], i: usize) -> bool
     requires { ⌜ i + 64 ≤ length (now text) ⌝ }
     ensures { λ r. ⌜ (r ≡ true → Ascii (now (text .entry)) i (i + 64)) ⌝ }
 {
-    let mut high: u8 = 0;
+    let mut bits: u8 = 0;
     for k in 0..64usize {
-        high += text[i + k] / 128;
+        bits |= text[i + k];
     }
-    high == 0
+    bits < 128
 }
 
 // Where a run of ASCII from i on ends, as far as it is looked at: 64 bytes, or none where those are not all ASCII or the
