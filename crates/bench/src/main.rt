@@ -169,8 +169,5 @@ fn main() {
         return;
     }
     say(last.items);
-    say(std::num::wrapping_add_u64(
-        sum_of_records(&records),
-        sum_of_bytes(&payload),
-    ));
+    say(std::num::wrapping_add_u64(sum_of_records(&records), sum_of_bytes(&payload)));
 }

@@ -2,7 +2,7 @@
 -- rulings, of tokens that were written and of a run that goes on.
 use Prim.Native.Nat.{ℕ, _+_, _*_, _≤_, _<_}
 use mathlib.Core.Path.{_≡_, refl, sym, subst, _∙_}
-use mathlib.Core.Bool.{Bool}
+use mathlib.Core.Bool.{Bool, true, false, not, false≢true}
 use mathlib.Core.List.{List, []}
 use native.Mathlib.Omega.{arith}
 use lib.ListN.{length}
@@ -23,7 +23,7 @@ use Rattle.rulings.specs.Rulings.{Rules, ruling-step}
 use Rattle.rulings.specs.declared.Ruling.{Ruling}
 use Rattle.rulings.specs.declared.Ruling.the-variants.{Token, Error, LineComment}
 use Rattle.place_rules.specs.Ruling.{rule-of, does}
-use Rattle.rules.specs.Acting.{Short, Long}
+use Rattle.rules.specs.Acting.{Short, Long, Sorts}
 use Rattle.sights.specs.Sights.{Looks, Sees}
 use Rattle.sights.specs.declared.Sight.{Sight}
 use Rattle.sights.specs.declared.Ahead.the-variants.{Chosen, Ruled, Inside}
@@ -36,6 +36,17 @@ use Rattle.bursts.specs.Bursts.{Writes, Puts, Leads}
 use Rattle.bursts.specs.declared.Put.the-variants as put-variants
 use Rattle.bursts.specs.declared.Burst.{Burst}
 use Rattle.bursts.proofs.TokenLaws.{ruling-ran}
+
+-- ---- rules
+
+-- which sort of rule it is, by what was answered
+pub no-ruling : (n : ℕ) (b : Bool) → Sorts n b → not b ≡ true → Long n
+no-ruling n true h e = absurd (false≢true e)
+no-ruling n false h e = h
+
+pub a-ruling : (n : ℕ) (b : Bool) → Sorts n b → not b ≡ false → Short n
+a-ruling n true h e = h
+a-ruling n false h e = absurd (false≢true (sym e))
 
 -- ---- what stands ahead
 
@@ -76,26 +87,28 @@ module _ {s f : Bytes} {at : Place} {r : Sight} (m : at .st .mode ≡ 0) (h : Se
     }
 
     -- a token that was written is a turn of the run
-    pub ruled-ran : {count used : ℕ} {rs : List ℕ} {ps : Bytes} {next : Place} {used′ : ℕ} {plain : Stretch} {rs′ : List ℕ} {ps′ : Bytes}
-        → Puts s (r .at) x (record-size * count) used rs ps (put-variants.Token next used′ plain) rs′ ps′ → (name : Bytes) → length name ≤ 4096
+    pub ruled-ran : (count used : ℕ) (rs : List ℕ) (ps : Bytes) (next : Place) (used′ : ℕ) (known : Stretch) (rs′ : List ℕ) (ps′ : Bytes)
+        → Puts s (r .at) x (record-size * count) used rs ps (put-variants.Token next used′ known) rs′ ps′ → (name : Bytes) → length name ≤ 4096
         → Ran s (run-turn s name f (writing at count used rs ps)) count (at .st) (Wrote next used′) rs′ ps′
-    ruled-ran w name named = ruling-ran (λ e. absurd (omega (arith, m, e))) x {e = r .choice .end} (ruled-step name named) (rules name f named .fits) w
+    ruled-ran count used rs ps next used′ known rs′ ps′ w name named =
+        ruling-ran s name f at (r .at) count used rs ps (λ e. absurd (omega (arith, m, e))) (r .choice .end) x next used′ known rs′ ps′ (ruled-step name named)
+        (rules name f named .fits) w
 
 -- behind it reading goes on between comments, with a stretch that is ASCII
-pub put-stays : {s : Bytes} {here : Place} (x : Ruling) {first used : ℕ} {rs : List ℕ} {ps : Bytes} {next : Place} {used′ : ℕ} {plain : Stretch} {rs′ : List ℕ} {ps′ : Bytes}
-    → here .st .mode ≡ 0 → Puts s here x first used rs ps (put-variants.Token next used′ plain) rs′ ps′ → (next .st .mode ≡ 0) × Plain s plain
-put-stays (Token k i e p) m w = (rw (w .behind) m, w .plain)
-put-stays (Error n p) m w = absurd w
-put-stays LineComment m w = absurd w
+pub put-stays : (s : Bytes) (here : Place) (x : Ruling) (first used : ℕ) (rs : List ℕ) (ps : Bytes) (next : Place) (used′ : ℕ) (known : Stretch) (rs′ : List ℕ)
+    (ps′ : Bytes) → here .st .mode ≡ 0 → Puts s here x first used rs ps (put-variants.Token next used′ known) rs′ ps′ → (next .st .mode ≡ 0) × Plain s known
+put-stays s here (Token k i e p) first used rs ps next used′ known rs′ ps′ m w = (rw (w .behind) m, w .plain)
+put-stays s here (Error n p) first used rs ps next used′ known rs′ ps′ m w = absurd w
+put-stays s here LineComment first used rs ps next used′ known rs′ ps′ m w = absurd w
 
 -- ---- the loop
 
 -- between two tokens: the run goes on as it would have before the first, whatever the file's name is
-pub record Bursting (s f : Bytes) (start : Place) (begun filled : ℕ) (rs₀ : List ℕ) (ps₀ : Bytes) (at : Place) (count used : ℕ) (plain : Stretch) (rs : List ℕ)
+pub record Bursting (s f : Bytes) (start : Place) (begun filled : ℕ) (rs₀ : List ℕ) (ps₀ : Bytes) (at : Place) (count used : ℕ) (known : Stretch) (rs : List ℕ)
     (ps : Bytes) : Type 0 where
   pub between : Between s [] f at count used rs ps
   pub mode : at .st .mode ≡ 0
-  pub plain : Plain s plain
+  pub plain : Plain s known
   pub going : (name : Bytes) (st : State) (rs₁ : List ℕ) (ps₁ : Bytes) → Going s name f st rs₁ ps₁ start begun filled rs₀ ps₀ → Going s name f st rs₁ ps₁ at count used rs ps
   pub less : left s (at .st) ≤ left s (start .st)
 
@@ -129,21 +142,32 @@ module _ {s f : Bytes} {start : Place} {begun filled : ℕ} {rs₀ : List ℕ} {
           mode = stays .0;
           plain = stays .1;
           going = λ name st rs₁ ps₁ g.
-            let here = k .going name st rs₁ ps₁ g in
-            going-on here next used′ rs′ ps′ (ran name (here .between .named)) .0;
+              let here = k .going name st rs₁ ps₁ g in
+              going-on here next used′ rs′ ps′ (ran name (here .between .named)) .0;
           less = omega (arith, b .1, k .less);
         },
         b .1,
       )
 
-  -- what stands ahead ends it
-  pub bursting-ends : {b : Burst} → b .at ≡ at → b .count ≡ count → b .used ≡ used
-      → ((name : Bytes) → length name ≤ 4096 → StandsAhead s name f at (b .here) (b .ahead)) → Leads s f start begun filled rs₀ ps₀ b rs ps
-  bursting-ends {b} p q u ahead = record {
-    going = λ name st rs₁ ps₁ g. rw (p, q, u) (k .going name st rs₁ ps₁ g);
-    ahead = λ name named. rw p (ahead name named);
-    less = rw p (k .less);
-  }
+  -- behind the tokens stands a choice whose rule gives no ruling
+  pub bursting-chosen : {r : Sight} → Sees s f at r → {n : ℕ} → n ≡ rule-of (r .choice .place) → Long n
+      → Leads s f start begun filled rs₀ ps₀ (record { at = at; here = r .at; ahead = Chosen (r .choice); count = count; used = used }) rs ps
+  bursting-chosen h q long = record { going = k .going; ahead = ahead-chosen (k .mode) h q long; less = k .less }
+
+  module _ {r : Sight} (h : Sees s f at r) {n : ℕ} (q : n ≡ rule-of (r .choice .place)) (short : Short n) {x : Ruling}
+      (rules : (name g : Bytes) → length name ≤ 4096 → Rules s name (r .at) (r .choice .end) (does s name g n (r .at .st) (r .choice .place) (r .choice .end) (r .choice .word)) x) where
+    -- or a ruling that was left
+    pub bursting-left : {rs′ : List ℕ} {ps′ : Bytes} → (rs′ ≡ rs) × (ps′ ≡ ps)
+        → Leads s f start begun filled rs₀ ps₀ (record { at = at; here = r .at; ahead = Ruled (r .choice .end) x; count = count; used = used }) rs′ ps′
+    bursting-left (a, b) = rw (a, b) (record { going = k .going; ahead = ahead-ruled (k .mode) h (k .between .accepted) q short rules; less = k .less })
+
+    -- a ruling that was written is passed
+    pub bursting-put : (next : Place) (used′ : ℕ) (known : Stretch) (rs′ : List ℕ) (ps′ : Bytes)
+        → Puts s (r .at) x (record-size * count) used rs ps (put-variants.Token next used′ known) rs′ ps′
+        → Bursting s f start begun filled rs₀ ps₀ next (count + 1) used′ known rs′ ps′ × (left s (next .st) < left s (at .st))
+    bursting-put next used′ known rs′ ps′ w =
+        bursting-on (ruled-ran (k .mode) h (k .between .accepted) q short rules count used rs ps next used′ known rs′ ps′ w)
+        (put-stays s (r .at) x (record-size * count) used rs ps next used′ known rs′ ps′ (h .faces .between) w)
 
 -- in a comment, or where the reading has ended, nothing is passed
 pub leads-nowhere : {s f : Bytes} {start : Place} {begun filled : ℕ} {rs : List ℕ} {ps : Bytes} → Between s [] f start begun filled rs ps → (start .st .mode ≡ 0 → ⊥)

@@ -7,14 +7,18 @@ use lib.ListN.{length}
 use Rattle.definition.specs.Basics.{Bytes}
 use Rattle.definition.specs.Position.{one-each, pos-of}
 use Rattle.definition.specs.State.{advance}
-use Rattle.definition.specs.Item.{Step, record-size}
-use Rattle.definition.specs.Token.{step}
-use Rattle.definition.specs.Run.{run-turn}
+use Rattle.definition.specs.Item.{Step, record-size, words}
+use Rattle.definition.specs.Token.{Token-turn, step}
+use Rattle.definition.specs.Run.{put, run-turn}
+use Rattle.definition.specs.declared.State.{State}
 use Rattle.definition.specs.declared.Match.the-variants.{To}
 use Rattle.definition.specs.declared.Extra.the-variants.{NoExtra}
 use Rattle.soundness.proofs.Moving.{stands-within}
 use Rattle.positions.specs.Columns.{Asked, column-at, located}
+use Rattle.columns.specs.Stretches.{Plain}
 use Rattle.columns.specs.declared.Stretch.{Stretch}
+use Rattle.columns.specs.declared.Columns.{Columns}
+use Rattle.records.specs.Numbers.{plain-item}
 use Rattle.described.specs.declared.Place.{Place}
 use Rattle.described.specs.declared.Payload.{Payload}
 use Rattle.described.specs.declared.Read.{Read}
@@ -22,7 +26,7 @@ use Rattle.described.specs.Described.{bytes-of, length-of, short-length, Reads}
 use Rattle.described.proofs.Building.{item-of, token-reads}
 use Rattle.described.proofs.Short.{short-long}
 use Rattle.described.proofs.Standing.{asks}
-use Rattle.rulings.specs.Rulings.{Spans, Fits, ruling-step}
+use Rattle.rulings.specs.Rulings.{Spans, Fits, Rules, ruling-step}
 use Rattle.rulings.specs.declared.Ruling.{Ruling}
 use Rattle.rulings.specs.declared.Ruling.the-variants.{Token, Error, LineComment}
 use Rattle.finishes.proofs.Spanning.{span-reads}
@@ -35,11 +39,15 @@ use Rattle.bursts.specs.declared.Put.the-variants as put-variants
 -- ---- what writing asks for
 
 -- what a ruling that can be carried out asks for
-pub ruling-asks : (s : Bytes) (here : Place) (x : Ruling) {first used : ℕ} {plain : Stretch} {rs : List ℕ} {ps : Bytes} → Fits s [] here x
+ruling-asked : (s : Bytes) (here : Place) (x : Ruling) {first used : ℕ} {plain : Stretch} {rs : List ℕ} {ps : Bytes} → Fits s [] here x
     → Writes s first used plain rs ps → RulingAsks s here x first used plain rs ps
-ruling-asks s here (Token k i e p) h w = record { spans = h .0; inside = h .1 [] .inside; writes = w }
-ruling-asks s here (Error n p) h w = tt
-ruling-asks s here LineComment h w = tt
+ruling-asked s here (Token k i e p) h w = record { spans = h .0; inside = h .1 [] .inside; writes = w }
+ruling-asked s here (Error n p) h w = tt
+ruling-asked s here LineComment h w = tt
+
+pub ruling-asks : {s : Bytes} {here : Place} {e : ℕ} {t : Token-turn} {x : Ruling} {first used : ℕ} {plain : Stretch} {rs : List ℕ} {ps : Bytes}
+    → Rules s [] here e t x → Writes s first used plain rs ps → RulingAsks s here x first used plain rs ps
+ruling-asks {s} {here} {x = x} r w = ruling-asked s here x (r .fits) w
 
 module _ {s : Bytes} {here : Place} {i e : ℕ} {p : Payload} {first used : ℕ} {plain : Stretch} {rs : List ℕ} {ps : Bytes}
     (h : TokenAsks s here i e p first used plain rs ps) where
@@ -74,12 +82,33 @@ module _ {s : Bytes} {here : Place} {i e : ℕ} {p : Payload} {first used : ℕ}
 
 -- ---- a token that was written
 
-module _ {s name f : Bytes} {at here : Place} {count used : ℕ} {rs : List ℕ} {ps : Bytes} (awake : at .st .mode ≡ 2 → ⊥) where
-  token-ran : {k i to e : ℕ} {p : Payload} {next : Place} {used′ : ℕ} {plain : Stretch} {rs′ : List ℕ} {ps′ : Bytes}
+-- what was written is the token
+pub token-written : {s : Bytes} {here : Place} {i e : ℕ} {p : Payload} {first used size : ℕ} {rs : List ℕ} {ps : Bytes} (k : ℕ) (cols : Columns) (next : State)
+    (known : Stretch) (rs′ : List ℕ) (ps′ : Bytes)
+    → short-length p ≡ To size → record-size ≤ length rs - first → size ≤ length ps - used
+    → (cols .start ≡ column-at one-each s (here .st) i .col) × (cols .end ≡ column-at one-each s (here .st) e .col) → next ≡ advance (here .st) e
+    → (rs′ ≡ put rs first (words (plain-item k (record { line = here .st .line; col = cols .start }) (record { line = here .st .line; col = cols .end }) size (here .st .comments)) used))
+    × ((name f : Bytes) → ps′ ≡ put ps used (bytes-of s name f p))
+    → Plain s known
+    → Written s here k i e p first used rs ps (record { st = next; known = record { off = e; col = cols .end } }) (used + size) known rs′ ps′
+token-written {s} {here} {i} {e} {size = size} k cols next known rs′ ps′ q room fits cs n w plain = record {
+  size = size;
+  short = q;
+  record-room = room;
+  payload-room = fits;
+  behind = rw (n, cs .1);
+  spent = refl;
+  records = rw (← cs .0, ← cs .1) (w .0);
+  payload = w .1;
+  plain = plain;
+}
+
+module _ (s name f : Bytes) (at here : Place) (count used : ℕ) (rs : List ℕ) (ps : Bytes) (awake : at .st .mode ≡ 2 → ⊥) (e : ℕ) where
+  token-ran : {k i to : ℕ} {p : Payload} {next : Place} {used′ : ℕ} {known : Stretch} {rs′ : List ℕ} {ps′ : Bytes}
       → ruling-step s name f (here .st) e (Token k i to p) ≡ step s name f (at .st) → Fits s name here (Token k i to p)
-      → Written s here k i to p (record-size * count) used rs ps next used′ plain rs′ ps′
+      → Written s here k i to p (record-size * count) used rs ps next used′ known rs′ ps′
       → Ran s (run-turn s name f (writing at count used rs ps)) count (at .st) (Wrote next used′) rs′ ps′
-  token-ran {k} {i} {to} {e} {p} {next} {used′} {plain} {rs′} {ps′} q fits w =
+  token-ran {k} {i} {to} {p} {next} {used′} {known} {rs′} {ps′} q fits w =
       let st = here .st in
       let size = w .size in
       let long : size ≡ length-of name p = sym (short-long name p size (w .short)) in
@@ -95,10 +124,10 @@ module _ {s name f : Bytes} {at here : Place} {count used : ℕ} {rs : List ℕ}
       rw (w .behind, w .spent) (wrote-ran s name f at count used rs ps awake (w .record-room) r reads size long rs′ ps′ (w .payload-room) (w .records) (w .payload name f))
 
   -- a ruling that was written was a token
-  pub ruling-ran : (x : Ruling) {e : ℕ} {next : Place} {used′ : ℕ} {plain : Stretch} {rs′ : List ℕ} {ps′ : Bytes}
+  pub ruling-ran : (x : Ruling) (next : Place) (used′ : ℕ) (known : Stretch) (rs′ : List ℕ) (ps′ : Bytes)
       → ruling-step s name f (here .st) e x ≡ step s name f (at .st) → Fits s name here x
-      → Puts s here x (record-size * count) used rs ps (put-variants.Token next used′ plain) rs′ ps′
+      → Puts s here x (record-size * count) used rs ps (put-variants.Token next used′ known) rs′ ps′
       → Ran s (run-turn s name f (writing at count used rs ps)) count (at .st) (Wrote next used′) rs′ ps′
-  ruling-ran (Token k i to p) {e} q fits w = token-ran {e = e} q fits w
-  ruling-ran (Error n p) q fits w = absurd w
-  ruling-ran LineComment q fits w = absurd w
+  ruling-ran (Token k i to p) next used′ known rs′ ps′ q fits w = token-ran q fits w
+  ruling-ran (Error n p) next used′ known rs′ ps′ q fits w = absurd w
+  ruling-ran LineComment next used′ known rs′ ps′ q fits w = absurd w

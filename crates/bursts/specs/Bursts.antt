@@ -39,11 +39,11 @@ pub record PairFits (s : Bytes) (p : Payload) (size first used : ℕ) (rs : List
   pub little : used < 4294967296
 
 -- what writing asks for besides: where the buffers are written so far, and a stretch that is ASCII
-pub record Writes (s : Bytes) (first used : ℕ) (plain : Stretch) (rs : List ℕ) (ps : Bytes) : Type 0 where
+pub record Writes (s : Bytes) (first used : ℕ) (known : Stretch) (rs : List ℕ) (ps : Bytes) : Type 0 where
   pub begun : first ≤ length rs
   pub filled : used ≤ length ps
   pub little : used < 4294967296
-  pub plain : Plain s plain
+  pub plain : Plain s known
 
 -- what a token from i up to e asks for. No short payload has the file's name in it, so that any name will do
 pub record TokenAsks (s : Bytes) (here : Place) (i e : ℕ) (p : Payload) (first used : ℕ) (plain : Stretch) (rs : List ℕ) (ps : Bytes) : Type 0 where
@@ -59,7 +59,7 @@ RulingAsks s here LineComment first used plain rs ps = Unit {0}
 
 -- a token from i up to e was written, and reading goes on behind it
 pub record Written (s : Bytes) (here : Place) (k i e : ℕ) (p : Payload) (first used : ℕ) (rs : List ℕ) (ps : Bytes) (next : Place) (used′ : ℕ)
-    (plain : Stretch) (rs′ : List ℕ) (ps′ : Bytes) : Type 0 where
+    (known : Stretch) (rs′ : List ℕ) (ps′ : Bytes) : Type 0 where
   pub size : ℕ
   pub short : short-length p ≡ To size
   pub record-room : record-size ≤ length rs - first
@@ -68,7 +68,7 @@ pub record Written (s : Bytes) (here : Place) (k i e : ℕ) (p : Payload) (first
   pub spent : used′ ≡ used + size
   pub records : rs′ ≡ put rs first (words (plain-item k (pos-of s (here .st) i) (pos-of s (here .st) e) size (here .st .comments)) used)
   pub payload : (name f : Bytes) → ps′ ≡ put ps used (bytes-of s name f p)
-  pub plain : Plain s plain
+  pub plain : Plain s known
 
 -- what became of a ruling: where it was left both buffers are what they were
 abbrev pub Puts : Bytes → Place → Ruling → ℕ → ℕ → List ℕ → Bytes → Put → List ℕ → Bytes → Type 0

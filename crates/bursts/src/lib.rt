@@ -122,7 +122,17 @@ fn put_token(
         col: cols.end,
     };
     write_pair(
-        text, kind, sp, ep, st.comments, payload, size, first, used, records, bytes,
+        text,
+        kind,
+        sp,
+        ep,
+        st.comments,
+        payload,
+        size,
+        first,
+        used,
+        records,
+        bytes,
     );
     let behind = Cache {
         off: to as u32,
@@ -162,7 +172,17 @@ fn put_ruling(
         return Put::Left;
     };
     put_token(
-        text, here, kind, from, end, payload, first, used, plain, records, bytes,
+        text,
+        here,
+        kind,
+        from,
+        end,
+        payload,
+        first,
+        used,
+        plain,
+        records,
+        bytes,
     )
 }
 

@@ -44,7 +44,15 @@ fn run_items(
     let mut used: usize = 0;
     loop {
         let burst = write_tokens(
-            text, classes, &ops, &symbols, at, count, used, records, payload,
+            text,
+            classes,
+            &ops,
+            &symbols,
+            at,
+            count,
+            used,
+            records,
+            payload,
         );
         let last = burst.at;
         let here = burst.here;

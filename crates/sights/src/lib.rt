@@ -28,10 +28,7 @@ pub enum Ahead {
     // A choice whose rule gives no ruling, or none at all: an unexpected character, or the text's end.
     Chosen(Choice),
     // A ruling on a choice that ends at byte `end`.
-    Ruled {
-        end: usize,
-        ruling: Ruling,
-    },
+    Ruled { end: usize, ruling: Ruling },
     // The inside of a comment.
     Inside,
 }
