@@ -96,6 +96,11 @@ going-starts s name f st rs ps h = record {
   same = sym (run-is s name f st rs ps);
 }
 
+-- where a run stands between two items any name that is short enough will do
+pub between-any : {s name f : Bytes} {at : Place} {count used : ℕ} {rs : List ℕ} {ps : Bytes} → Between s name f at count used rs ps
+    → (other : Bytes) → length other ≤ 4096 → Between s other f at count used rs ps
+between-any b other named = record { accepted = b .accepted; named = named; kept = b .kept; cached = b .cached }
+
 -- behind an item that was written a run stands between two items again, with less to read
 pub between-on : {s name f : Bytes} {at : Place} {count used : ℕ} {rs : List ℕ} {ps : Bytes} → Between s name f at count used rs ps
     → (next : Place) (used′ : ℕ) (rs′ : List ℕ) (ps′ : Bytes)
