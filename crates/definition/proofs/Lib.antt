@@ -1,3 +1,4 @@
+mod Computed
 pub mod Tables
 mod Cases
 mod Limits

@@ -1,4 +1,4 @@
--- The table of refusals and stops of specs/Limits.antt, as one claim that the checker computes; and that refusal 6 goes before
+-- The table of refusals and stops of specs/Limits.antt, as one test that the checker computes; and that refusal 6 goes before
 -- all others and refusal 7 next, which no table could show without a text of a million bytes. Rests on nothing but the definition.
 use mathlib.Core.Path.{_≡_, refl}
 use mathlib.Core.Bool.{true, false}
@@ -7,10 +7,11 @@ use Rattle.definition.specs.Basics.{Bytes}
 use Rattle.definition.specs.Run.{text-too-long, name-too-long, refusal}
 use Rattle.definition.specs.Limits.{limit-rows, given, due}
 use Rattle.definition.specs.declared.State.{State}
+use Rattle.definition.proofs.Computed.{equal-rows}
 
 pub limits : given ≡ due
 unfolding limit-rows
-limits = refl
+limits = equal-rows given due refl
 
 module _ (s name f : Bytes) (st : State) where
   -- a text that is too long is refusal 6, whatever else is wrong

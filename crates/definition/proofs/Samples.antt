@@ -11,11 +11,7 @@ use Rattle.definition.specs.Tables.{early-literals, kw-op-rules, op-toke
 use Rattle.definition.specs.Regex.{Re, eps, chr, seq, alt, many, never, Many, none, more, In}
 use Rattle.definition.specs.Patterns.{patterns, pattern}
 use Rattle.definition.specs.Samples.{nullable, if-so, after-char, accepts, samples, Sampled, all-accepted}
-
--- both tests pass
-both : (a b : Bool) → a && b ≡ true → (a ≡ true) × (b ≡ true)
-both true b e = (refl, e)
-both false b e = absurd (false≢true e)
+use Rattle.definition.proofs.Computed.{both}
 
 -- one of two tests passes
 one-of-two : (a b : Bool) → a || b ≡ true → (a ≡ true) ⊎ (b ≡ true)
