@@ -1,2 +1,2 @@
-pub mod TokenLaws
+pub mod RanLaws
 pub mod BurstLaws

@@ -1,38 +1,23 @@
-// The tokens of a run that follow one another: each is written from its ruling, where it is found, without an item being made
-// of it. Nearly all items are such tokens, and what is handed from function to function for an item costs more than the token.
+// The tokens of a run that follow one another, each written from its ruling (crate `puts`). Nearly all items are such tokens,
+// and what is handed from function to function for an item costs more than the token.
 //
 // Proved: behind the tokens the run goes on as the definition's does, whatever the file's name is, and what stands ahead there
-// is said (`StandsAhead`); each token is written as the definition's turn of a run writes it.
-// Assumed: nothing but what each function's `requires` says: the run was not refused and stands between two items, the tables
-// of operator and of symbol characters are lent, and a token's parts lie in the text.
+// is said (`StandsAhead`).
+// Assumed: nothing but what `write_tokens`'s `requires` says: the run was not refused and stands between two items, and the
+// tables of operator and of symbol characters are lent.
 use columns::Stretch;
-use columns::stretches::columns;
-use columns::stretches::stretch;
-use definition::Match;
-use definition::Pos;
-use described::Payload;
 use described::Place;
-use described::short_length;
-use payloads::write_short;
 use place_rules::table::rule_of;
-use positions::Cache;
-use records::write_token;
+use puts::Put;
+use puts::put_ruling;
 use rules::gives_ruling;
 use rules::ruled;
-use rulings::Ruling;
 use sights::Ahead;
 use sights::look;
-ghost use mathlib.Core.Path.{_≡_};
 ghost use mathlib.Core.List.{[]};
-ghost use Rattle.definition.specs.Basics.{Bytes};
-ghost use Rattle.definition.specs.Item.{words};
-ghost use Rattle.definition.specs.Run.{put};
 ghost use Rattle.select.specs.Standing.{Lent};
-ghost use Rattle.described.specs.Described.{bytes-of};
-ghost use Rattle.records.specs.Numbers.{plain-item};
 ghost use Rattle.run_turns.specs.Running.{Between};
-ghost use Rattle.rulings.specs.declared.Ruling.the-variants.{Token};
-ghost use Rattle.bursts.specs.Bursts.{PairFits, TokenAsks, RulingAsks, Puts, Leads};
+ghost use Rattle.bursts.specs.Bursts.{Leads};
 
 // Behind a run's tokens: where the run stands, and what stands ahead, behind white space at `here`.
 pub struct Burst {
@@ -41,149 +26,6 @@ pub struct Burst {
     pub ahead: Ahead,
     pub count: usize,
     pub used: usize,
-}
-
-// What became of a ruling: it was left, or it was a token and is written, behind which reading goes on with so many payload
-// bytes used and with a stretch of the text that is known to be ASCII.
-pub enum Put {
-    Left,
-    Token {
-        next: Place,
-        used: usize,
-        plain: Stretch,
-    },
-}
-
-// Writes a token's payload from byte `used` on, and its record from number `first` on.
-fn write_pair(
-    text: &[u8],
-    kind: u32,
-    sp: Pos,
-    ep: Pos,
-    comments: u32,
-    payload: Payload,
-    size: usize,
-    first: usize,
-    used: usize,
-    records: &mut [u32],
-    bytes: &mut [u8],
-)
-    requires { ⌜ PairFits (now text) payload size first used (now records) (now bytes) ⌝ }
-    ensures { λ r. ⌜ (now (records .exit) ≡ put (now (records .entry)) first (words (plain-item kind sp ep size comments) used)) × ((name f : Bytes) → now (bytes .exit) ≡ put (now (bytes .entry)) used (bytes-of (now (text .entry)) name f payload)) ⌝ }
-{
-    write_short(text, payload, size, &mut bytes[used..]);
-    write_token(
-        kind,
-        sp,
-        ep,
-        size as u32,
-        comments,
-        used as u32,
-        &mut records[first..],
-    );
-}
-
-// Writes a token from byte `from` up to byte `to`, if its record and its payload fit and its payload is a short one.
-fn put_token(
-    text: &[u8],
-    here: Place,
-    kind: u32,
-    from: usize,
-    to: usize,
-    payload: Payload,
-    first: usize,
-    used: usize,
-    plain: Stretch,
-    records: &mut [u32],
-    bytes: &mut [u8],
-) -> Put
-    requires { ⌜ TokenAsks (now text) here from to payload first used plain (now records) (now bytes) ⌝ }
-    ensures { λ r. ⌜ Puts (now (text .entry)) here (Token kind from to payload) first used (now (records .entry)) (now (bytes .entry)) r (now (records .exit)) (now (bytes .exit)) ⌝ }
-{
-    if records.len() - first < 16 {
-        return Put::Left;
-    }
-    let Match::To(size) = short_length(payload) else {
-        return Put::Left;
-    };
-    if bytes.len() - used < size {
-        return Put::Left;
-    }
-    let st = here.st;
-    let known = here.known;
-    let ascii = stretch(text, known, plain, to);
-    let cols = columns(text, st, known, ascii, from as u32, to as u32);
-    let sp = Pos {
-        line: st.line,
-        col: cols.start,
-    };
-    let ep = Pos {
-        line: st.line,
-        col: cols.end,
-    };
-    write_pair(
-        text,
-        kind,
-        sp,
-        ep,
-        st.comments,
-        payload,
-        size,
-        first,
-        used,
-        records,
-        bytes,
-    );
-    let behind = Cache {
-        off: to as u32,
-        col: cols.end,
-    };
-    Put::Token {
-        next: Place {
-            st: st.advance(to as u32),
-            known: behind,
-        },
-        used: used + size,
-        plain: ascii,
-    }
-}
-
-// Writes what a ruling says, if it says a token and that fits.
-fn put_ruling(
-    text: &[u8],
-    here: Place,
-    ruling: Ruling,
-    first: usize,
-    used: usize,
-    plain: Stretch,
-    records: &mut [u32],
-    bytes: &mut [u8],
-) -> Put
-    requires { ⌜ RulingAsks (now text) here ruling first used plain (now records) (now bytes) ⌝ }
-    ensures { λ r. ⌜ Puts (now (text .entry)) here ruling first used (now (records .entry)) (now (bytes .entry)) r (now (records .exit)) (now (bytes .exit)) ⌝ }
-{
-    let Ruling::Token {
-        kind,
-        from,
-        end,
-        payload,
-    } = ruling
-    else {
-        return Put::Left;
-    };
-    put_token(
-        text,
-        here,
-        kind,
-        from,
-        end,
-        payload,
-        first,
-        used,
-        plain,
-        records,
-        bytes,
-    )
 }
 
 // Writes the tokens that stand one behind the other from `start` on, between comments, until something else stands ahead or

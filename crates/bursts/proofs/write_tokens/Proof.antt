@@ -5,7 +5,7 @@ use lib.ListN.{length}
 use Rattle.progress.proofs.Moves.{left}
 use Rattle.rules.proofs.RuleLaws.{rule-small}
 use Rattle.sights.proofs.SightLaws.{sight-tabled, ruling-chose}
-use Rattle.bursts.proofs.TokenLaws.{ruling-asks}
+use Rattle.puts.proofs.TokenLaws.{ruling-asks}
 use Rattle.bursts.proofs.BurstLaws.{no-ruling, a-ruling, Bursting, bursting-starts, bursting-looks, bursting-writes, bursting-chosen, bursting-left, bursting-put, leads-nowhere}
 use native.Mathlib.Omega.{arith}
 use borrow.Author.Needs.{needs}

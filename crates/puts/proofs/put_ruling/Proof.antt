@@ -1,7 +1,7 @@
 -- A token is put; anything else is left.
 use borrow.Author.Needs.{needs}
-use Rattle.bursts.proofs.put_ruling.Statement.{statement}
-use Rattle.bursts.proofs.put_ruling.Tie as tie
+use Rattle.puts.proofs.put_ruling.Statement.{statement}
+use Rattle.puts.proofs.put_ruling.Tie as tie
 
 enum-known-ruling : tie.Need-enum-known-ruling
 enum-known-ruling c = search needs

@@ -1,10 +1,10 @@
 -- What doesn't fit is left; what fits has its columns, and is written.
 use mathlib.Core.Path.{sym, _∙_}
-use Rattle.bursts.proofs.TokenLaws.{start-asked, end-asked, end-small, pair-fits, token-written}
+use Rattle.puts.proofs.TokenLaws.{start-asked, end-asked, end-small, pair-fits, token-written}
 use native.Mathlib.Omega.{arith}
 use borrow.Author.Needs.{needs}
-use Rattle.bursts.proofs.put_token.Statement.{statement}
-use Rattle.bursts.proofs.put_token.Tie as tie
+use Rattle.puts.proofs.put_token.Statement.{statement}
+use Rattle.puts.proofs.put_token.Tie as tie
 
 sub-if1 : tie.Need-sub-if1
 sub-if1 c = search needs

@@ -1,8 +1,8 @@
 -- Each buffer's tail comes back written over.
 use Rattle.lemmas.proofs.Tails.{lent}
 use borrow.Author.Needs.{needs}
-use Rattle.bursts.proofs.write_pair.Statement.{statement}
-use Rattle.bursts.proofs.write_pair.Tie as tie
+use Rattle.puts.proofs.write_pair.Statement.{statement}
+use Rattle.puts.proofs.write_pair.Tie as tie
 
 sub-write-short : tie.Need-sub-write-short
 sub-write-short c = search needs
