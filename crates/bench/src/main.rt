@@ -121,7 +121,7 @@ fn rounds() -> usize {
     number(&word[..length])
 }
 
-// A number, and a byte, as one of 64 bits.
+// A number, and a byte, as one of 64 bits: in a function of their own casts of what an index reads ask for no proof.
 fn wide_number(n: u32) -> u64 {
     n as u64
 }

@@ -15,6 +15,7 @@ use Rattle.definition.specs.Token.{next-token, step}
 use Rattle.definition.specs.Run.{run-turn}
 use Rattle.definition.specs.declared.State.{State}
 use Rattle.progress.proofs.Moves.{left}
+use Rattle.progress.proofs.Fuel.{run-from}
 use Rattle.columns.specs.Stretches.{Plain}
 use Rattle.columns.specs.declared.Stretch.{Stretch}
 use Rattle.described.specs.Standing.{Standing}
@@ -30,11 +31,11 @@ use Rattle.sights.specs.declared.Ahead.the-variants.{Chosen, Ruled, Inside}
 use Rattle.sights.proofs.SightLaws.{ruling-chose, ruling-next}
 use Rattle.select.specs.Standing.{Lent}
 use Rattle.run_turns.specs.declared.Went.the-variants.{Wrote}
-use Rattle.run_turns.specs.Running.{writing, Ran, Between, StandsAhead, Going}
-use Rattle.run_turns.proofs.RunLaws.{between-on, going-on}
+use Rattle.run_turns.specs.Running.{writing, Ran, Between, StandsAhead}
+use Rattle.run_turns.proofs.RunLaws.{between-any, between-on, ran-same}
 use Rattle.puts.specs.Puts.{Writes, Puts}
 use Rattle.puts.specs.declared.Put.the-variants as put-variants
-use Rattle.bursts.specs.Bursts.{Leads}
+use Rattle.bursts.specs.Bursts.{BurstsTo}
 use Rattle.bursts.proofs.RanLaws.{ruling-ran}
 
 -- ---- rules
@@ -103,18 +104,18 @@ put-stays s here LineComment first used rs ps next used′ known rs′ ps′ m w
 
 -- ---- the loop
 
--- between two tokens: the run goes on as it would have before the first, whatever the file's name is
+-- between two tokens: what is still to come is what was to come before the first, whatever the file's name is
 pub record Bursting (s f : Bytes) (start : Place) (begun filled : ℕ) (rs₀ : List ℕ) (ps₀ : Bytes) (at : Place) (count used : ℕ) (known : Stretch) (rs : List ℕ)
     (ps : Bytes) : Type 0 where
   pub between : Between s [] f at count used rs ps
   pub mode : at .st .mode ≡ 0
   pub plain : Plain s known
-  pub going : (name : Bytes) (st : State) (rs₁ : List ℕ) (ps₁ : Bytes) → Going s name f st rs₁ ps₁ start begun filled rs₀ ps₀ → Going s name f st rs₁ ps₁ at count used rs ps
+  pub same : (name : Bytes) → length name ≤ 4096 → run-from s name f (writing at count used rs ps) ≡ run-from s name f (writing start begun filled rs₀ ps₀)
   pub less : left s (at .st) ≤ left s (start .st)
 
 pub bursting-starts : {s f : Bytes} {start : Place} {begun filled : ℕ} {rs : List ℕ} {ps : Bytes} → Between s [] f start begun filled rs ps → start .st .mode ≡ 0
     → Bursting s f start begun filled rs ps start begun filled (record { from = 0; to = 0 }) rs ps
-bursting-starts b m = record { between = b; mode = m; plain = λ k l u. absurd (omega (arith, u)); going = λ name st rs ps g. g; less = omega arith }
+bursting-starts b m = record { between = b; mode = m; plain = λ k l u. absurd (omega (arith, u)); same = λ name named. refl; less = omega arith }
 
 module _ {s f : Bytes} {start : Place} {begun filled : ℕ} {rs₀ : List ℕ} {ps₀ : Bytes} {at : Place} {count used : ℕ} {plain : Stretch} {rs : List ℕ} {ps : Bytes}
     (k : Bursting s f start begun filled rs₀ ps₀ at count used plain rs ps) where
@@ -141,9 +142,7 @@ module _ {s f : Bytes} {start : Place} {begun filled : ℕ} {rs₀ : List ℕ} {
           between = b .0;
           mode = stays .0;
           plain = stays .1;
-          going = λ name st rs₁ ps₁ g.
-              let here = k .going name st rs₁ ps₁ g in
-              going-on here next used′ rs′ ps′ (ran name (here .between .named)) .0;
+          same = λ name named. ran-same (between-any (k .between) name named) next used′ rs′ ps′ (ran name named) ∙ k .same name named;
           less = omega (arith, b .1, k .less);
         },
         b .1,
@@ -151,15 +150,15 @@ module _ {s f : Bytes} {start : Place} {begun filled : ℕ} {rs₀ : List ℕ} {
 
   -- behind the tokens stands a choice whose rule gives no ruling
   pub bursting-chosen : {r : Sight} → Sees s f at r → {n : ℕ} → n ≡ rule-of (r .choice .place) → Long n
-      → Leads s f start begun filled rs₀ ps₀ (record { at = at; here = r .at; ahead = Chosen (r .choice); count = count; used = used }) rs ps
-  bursting-chosen h q long = record { going = k .going; ahead = ahead-chosen (k .mode) h q long; less = k .less }
+      → BurstsTo s f start begun filled rs₀ ps₀ (record { at = at; here = r .at; ahead = Chosen (r .choice); count = count; used = used }) rs ps
+  bursting-chosen h q long = record { between = k .between; same = k .same; ahead = ahead-chosen (k .mode) h q long; less = k .less }
 
   module _ {r : Sight} (h : Sees s f at r) {n : ℕ} (q : n ≡ rule-of (r .choice .place)) (short : Short n) {x : Ruling}
       (rules : (name g : Bytes) → length name ≤ 4096 → Rules s name (r .at) (r .choice .end) (does s name g n (r .at .st) (r .choice .place) (r .choice .end) (r .choice .word)) x) where
     -- or a ruling that was left
     pub bursting-left : {rs′ : List ℕ} {ps′ : Bytes} → (rs′ ≡ rs) × (ps′ ≡ ps)
-        → Leads s f start begun filled rs₀ ps₀ (record { at = at; here = r .at; ahead = Ruled (r .choice .end) x; count = count; used = used }) rs′ ps′
-    bursting-left (a, b) = rw (a, b) (record { going = k .going; ahead = ahead-ruled (k .mode) h (k .between .accepted) q short rules; less = k .less })
+        → BurstsTo s f start begun filled rs₀ ps₀ (record { at = at; here = r .at; ahead = Ruled (r .choice .end) x; count = count; used = used }) rs′ ps′
+    bursting-left (a, b) = rw (a, b) (record { between = k .between; same = k .same; ahead = ahead-ruled (k .mode) h (k .between .accepted) q short rules; less = k .less })
 
     -- a ruling that was written is passed
     pub bursting-put : (next : Place) (used′ : ℕ) (known : Stretch) (rs′ : List ℕ) (ps′ : Bytes)
@@ -170,10 +169,11 @@ module _ {s f : Bytes} {start : Place} {begun filled : ℕ} {rs₀ : List ℕ} {
         (put-stays s (r .at) x (record-size * count) used rs ps next used′ known rs′ ps′ (h .faces .between) w)
 
 -- in a comment, or where the reading has ended, nothing is passed
-pub leads-nowhere : {s f : Bytes} {start : Place} {begun filled : ℕ} {rs : List ℕ} {ps : Bytes} → Between s [] f start begun filled rs ps → (start .st .mode ≡ 0 → ⊥)
-    → Leads s f start begun filled rs ps (record { at = start; here = start; ahead = Inside; count = begun; used = filled }) rs ps
-leads-nowhere b n = record {
-  going = λ name st rs ps g. g;
+pub bursts-nowhere : {s f : Bytes} {start : Place} {begun filled : ℕ} {rs : List ℕ} {ps : Bytes} → Between s [] f start begun filled rs ps → (start .st .mode ≡ 0 → ⊥)
+    → BurstsTo s f start begun filled rs ps (record { at = start; here = start; ahead = Inside; count = begun; used = filled }) rs ps
+bursts-nowhere b n = record {
+  between = b;
+  same = λ name named. refl;
   ahead = λ name named. ahead-inside (record { stands = b .kept .stands; cached = b .cached }) n;
   less = omega arith;
 }

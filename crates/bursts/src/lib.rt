@@ -1,8 +1,9 @@
 // The tokens of a run that follow one another, each written from its ruling (crate `puts`). Nearly all items are such tokens,
 // and what is handed from function to function for an item costs more than the token.
 //
-// Proved: behind the tokens the run goes on as the definition's does, whatever the file's name is, and what stands ahead there
-// is said (`StandsAhead`).
+// Proved: behind the tokens what is still to come of the run is what was to come before them, whatever the file's name is (no
+// token that is written here has it in its payload, so the contract asks for any name, the empty one), and what stands ahead
+// there is said (`BurstsTo`). That as many tokens as possible are written is not promised: what is left, a turn writes.
 // Assumed: nothing but what `write_tokens`'s `requires` says: the run was not refused and stands between two items, and the
 // tables of operator and of symbol characters are lent.
 use columns::Stretch;
@@ -17,7 +18,7 @@ use sights::look;
 ghost use mathlib.Core.List.{[]};
 ghost use Rattle.select.specs.Standing.{Lent};
 ghost use Rattle.run_turns.specs.Running.{Between};
-ghost use Rattle.bursts.specs.Bursts.{Leads};
+ghost use Rattle.bursts.specs.Bursts.{BurstsTo};
 
 // Behind a run's tokens: where the run stands, and what stands ahead, behind white space at `here`.
 pub struct Burst {
@@ -42,12 +43,8 @@ pub fn write_tokens(
     bytes: &mut [u8],
 ) -> Burst
     requires { ⌜ Between (now text) [] (now classes) start begun filled (now records) (now bytes) × Lent (now classes) (now ops) (now symbols) ⌝ }
-    ensures { λ r. ⌜ Leads (now (text .entry)) (now (classes .entry)) start begun filled (now (records .entry)) (now (bytes .entry)) r (now (records .exit)) (now (bytes .exit)) ⌝ }
+    ensures { λ r. ⌜ BurstsTo (now (text .entry)) (now (classes .entry)) start begun filled (now (records .entry)) (now (bytes .entry)) r (now (records .exit)) (now (bytes .exit)) ⌝ }
 {
-    let mut at = start;
-    let mut count = begun;
-    let mut used = filled;
-    let mut plain = Stretch { from: 0, to: 0 };
     let st = start.st;
     if st.mode != 0 {
         return Burst {
@@ -58,6 +55,10 @@ pub fn write_tokens(
             used: filled,
         };
     }
+    let mut at = start;
+    let mut count = begun;
+    let mut used = filled;
+    let mut plain = Stretch { from: 0, to: 0 };
     loop {
         let sight = look(text, classes, ops, symbols, at);
         let here = sight.at;

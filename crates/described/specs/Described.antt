@@ -19,7 +19,6 @@ use Rattle.positions.specs.declared.Cache.{Cache}
 use Rattle.definition.specs.declared.State.{State}
 use Rattle.definition.specs.declared.Match.{Match}
 use Rattle.definition.specs.declared.Match.the-variants.{To, Nothing}
-use Rattle.described.specs.declared.Place.{Place}
 use Rattle.described.specs.declared.Turned.{Turned}
 use Rattle.described.specs.declared.Turned.the-variants.{Done, Again}
 use Rattle.described.specs.declared.Payload.{Payload}

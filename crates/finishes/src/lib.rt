@@ -1,8 +1,8 @@
 // What is read of a choice that is read whole: a ruling is carried out, and a character is made.
 //
-// Proved: each function reads what the definition gives (crates/definition/specs/Token.antt): item, payload and state. All
-// rulings are carried out by one `finish`: a token's positions are asked for in one place, whatever its rule. Characters,
-// which alone have a code point besides, are made by themselves.
+// Proved: each function reads what the definition gives (crates/definition/specs/Token.antt): item, payload and state. Most
+// tokens are written straight from their rulings (crate `puts`); what is left of them, with errors and line comments, one
+// `finish` carries out. Characters, which alone have a code point besides, are made by themselves.
 // Assumed: nothing but what each function's `requires` says: a reader stands in a sound state of a legal text, the choice
 // ends behind it (`Chose`), and the ruling fits the text (`Fits`).
 use definition::Extra;

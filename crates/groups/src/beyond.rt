@@ -42,7 +42,7 @@ fn line_end(c: u32, j: usize) -> Match
     Match::Nothing
 }
 
-// The end of an identifier whose first character is c.
+// The end of an identifier whose first character is c. What follows is decoded at once: it is mostly beyond ASCII too.
 fn ident_behind(text: &[u8], file: &[u8], c: u32, j: usize) -> Match
     requires { ⌜ class-check (now file) ≡ 0 ⌝ }
     ensures { λ r. ⌜ r ≡ only (is-ident-start c) (To (star (is-ident-char (now (file .entry))) (now (text .entry)) j)) ⌝ }

@@ -1,5 +1,6 @@
 // Document 01's run, over a text, on numbers and lent buffers. (Its `start` and class check are `state::start` and
-// `classes::check::class_check`; its tokens are written by `bursts::write_tokens`, any other item by `run_turns::turn`.)
+// `classes::check::class_check`; tokens that follow one another are written by `bursts::write_tokens`, what that leaves by
+// `run_turns::turn`.)
 //
 // Proved: for every input `run` answers, and leaves both buffers, as the definition's `run` says, refusals included; and
 // for a run that isn't refused, demand 3 holds at every reading position. Assumed: nothing.

@@ -52,9 +52,6 @@ module _ {s : Bytes} {here : Place} {i e : ℕ} {p : Payload} {first used : ℕ}
   end-asked = asks (h .spans .standing) e (h .spans .next .sound .order) (stands-within (h .spans .next))
 
   -- no offset of a text is too large
-  pub start-small : i < 4294967296
-  start-small = omega (arith, h .spans .within, h .spans .next .short)
-
   pub end-small : e < 4294967296
   end-small = let w : e ≤ length s = stands-within (h .spans .next) in omega (arith, h .spans .next .short)
 

@@ -146,8 +146,8 @@ pub fn put_ruling(
 {
     let Ruling::Token {
         kind,
-        from,
-        end,
+        from: begin,
+        end: behind,
         payload,
     } = ruling
     else {
@@ -157,8 +157,8 @@ pub fn put_ruling(
         text,
         here,
         kind,
-        from,
-        end,
+        begin,
+        behind,
         payload,
         first,
         used,

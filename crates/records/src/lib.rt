@@ -141,8 +141,8 @@ pub fn write_record(item: Item, used: u32, out: &mut [u32])
     );
 }
 
-// Writes the record of a token that holds nothing besides its kind, its range and its payload. The parts come one by one,
-// so that no item is built for it.
+// Writes the record of a token that holds nothing besides its kind, its range and its payload. The parts come one by one, and
+// what `extra_numbers` gives for nothing besides is spelled out, so that no item is built for it.
 pub fn write_token(
     kind: u32,
     sp: Pos,

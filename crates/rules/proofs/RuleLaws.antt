@@ -6,7 +6,7 @@ use mathlib.Core.Path.{_≡_, refl, sym, ap, subst, _∙_}
 use mathlib.Core.Bool.{Bool, true, false, not, _&&_, _||_, false≢true}
 use mathlib.Core.List.{List, [], _∷_, _++_, map}
 use lib.Dec.{eqb, ltb}
-use lib.ListN.{length, getD, List·getD-map}
+use lib.ListN.{getD, List·getD-map}
 use borrow.Author.Tests.{eqb-true, eqb-false, eq-eqb, ne-eqb, ltb-true}
 use Rattle.definition.specs.Basics.{Bytes, done, mem-cp}
 use Rattle.definition.specs.Chars.{count-up}
@@ -145,9 +145,6 @@ module _ {s name f : Bytes} {at : Place} {c : Choice} (h : Acts s name f at c) w
     by-rule t d =
         subst (λ (x : Token-turn). Turns s name f x t)
         (ap (λ (m : ℕ). does s name f m (at .st) (c .place) (c .end) (c .word)) (sym p ∙ q) ∙ sym (act-is s name f (at .st) c (tabled .place))) d
-
-  pub chose-short : {n : ℕ} → n ≡ rule-of (c .place) → Short n → Chose s at (c .end)
-  chose-short {n} q o = chose q refl (ne-eqb n 0 (o .short .0 .0 .0 .0 .0 .0 .0 .0 .1))
 
   -- the step that a ruling stands for is what is done
   pub ruled-acts : {n : ℕ} {x : Ruling} → n ≡ rule-of (c .place)

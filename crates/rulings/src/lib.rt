@@ -1,6 +1,7 @@
 // What a rule says of a choice that is read whole: a token, an error, or a line's comment. A ruling is small and is made
-// before any position is asked for (crates `word_rulings`, `number_rulings`, `operator_rulings`, `place_rules`); what is read
-// of it is made in one place (crate `finishes`), so that nothing large is handed from rule to rule.
+// before any position is asked for (crates `word_rulings`, `number_rulings`, `operator_rulings`, `place_rules`); what it
+// says is written from it where it fits (crate `puts`) or carried out (crate `finishes`), so that nothing large is handed from
+// rule to rule.
 //
 // There is no code here. What a ruling stands for, and what carrying it out asks for, is said in specs/Rulings.antt. Proved
 // (in proofs/): which rulings stand for a rule's token, error or line comment (RulingLaws), what a token up to a choice's end

@@ -1,27 +1,23 @@
 -- A run, turn by turn: what holds between two items holds behind the next, and what is still to come gives what the whole gives. Rests
 -- on the laws of sound states, of payloads and of the items' number.
 use Prim.Native.Nat.{ℕ, _+_, _-_, _*_, _≤_, _<_}
-use mathlib.Core.Path.{_≡_, refl, sym, ap, subst, _∙_}
-use mathlib.Core.Bool.{true, false}
+use mathlib.Core.Path.{_≡_, sym, ap, subst, _∙_}
 use mathlib.Core.List.{List}
 use native.Mathlib.Omega.{arith}
-use borrow.Author.Tests.{eqb-true, eqb-false}
-use lib.Dec.{ltb, eqb}
+use borrow.Author.Tests.{eqb-false}
+use lib.Dec.{eqb}
 use lib.ListN.{length}
-use Rattle.definition.specs.Basics.{Bytes, Turn, again, done}
+use Rattle.definition.specs.Basics.{Bytes, Turn}
 use Rattle.definition.specs.Position.{count-chars, col-by}
-use Rattle.definition.specs.Item.{Step, record-size, words}
+use Rattle.definition.specs.Item.{record-size, words}
 use Rattle.definition.specs.Token.{step}
 use Rattle.definition.specs.Run.{put, Outcome, Writing, written, run-turn, run-items}
 use Rattle.definition.specs.declared.State.{State}
 use Rattle.lemmas.proofs.Cases.{by-test, by-lt}
 use Rattle.lemmas.proofs.Loops.{says, Leads, Any}
 use Rattle.lemmas.proofs.Tails.{length-put}
-use Rattle.state.specs.Sound.{Stands}
-use Rattle.positions.specs.declared.Cache.{Cache}
-use Rattle.progress.proofs.Moves.{left, awake-small, Opened}
+use Rattle.progress.proofs.Moves.{left, awake-small}
 use Rattle.progress.proofs.Fuel.{run-from, run-unroll, run-is}
-use Rattle.soundness.specs.Budget.{budget}
 use Rattle.soundness.proofs.Moving.{stands-within}
 use Rattle.soundness.proofs.Steps.{step-stands}
 use Rattle.soundness.proofs.Payloads.{payload-bound, budget-small}
@@ -111,23 +107,35 @@ between-on {s} {name} {f} {at} {count} {used} {rs} {ps} b next used′ rs′ ps�
     subst (Leads (λ b. Kept s b × (left s (b .state) < left s (at .st))) Any) (e .0) (turn-keeps s name f (b .named) (writing at count used rs ps) (b .kept)) in
     (record { accepted = b .accepted; named = b .named; kept = k .0; cached = e .1 }, k .1)
 
+-- and what is still to come is what was to come before it
+unrolled : {s name f : Bytes} {at : Place} {count used : ℕ} {rs : List ℕ} {ps : Bytes} → Between s name f at count used rs ps
+    → run-from s name f (writing at count used rs ps) ≡ says (run-turn s name f (writing at count used rs ps)) (run-from s name f)
+unrolled {s} {name} {f} {at} {count} {used} {rs} {ps} b = run-unroll s name f (writing at count used rs ps) (b .kept .stands .sound .opened)
+
+pub ran-same : {s name f : Bytes} {at : Place} {count used : ℕ} {rs : List ℕ} {ps : Bytes} → Between s name f at count used rs ps
+    → (next : Place) (used′ : ℕ) (rs′ : List ℕ) (ps′ : Bytes)
+    → Ran s (run-turn s name f (writing at count used rs ps)) count (at .st) (Wrote next used′) rs′ ps′
+    → run-from s name f (writing next (count + 1) used′ rs′ ps′) ≡ run-from s name f (writing at count used rs ps)
+ran-same {s} {name} {f} b next used′ rs′ ps′ e = ap (λ (t : Turn Writing Outcome). says t (run-from s name f)) (sym (e .0)) ∙ sym (unrolled b)
+
 module _ {s name f : Bytes} {st : State} {rs₀ : List ℕ} {ps₀ : Bytes} {at : Place} {count used : ℕ} {rs : List ℕ} {ps : Bytes}
     (g : Going s name f st rs₀ ps₀ at count used rs ps) where
-  unrolled : run-from s name f (writing at count used rs ps) ≡ says (run-turn s name f (writing at count used rs ps)) (run-from s name f)
-  unrolled = run-unroll s name f (writing at count used rs ps) (g .between .kept .stands .sound .opened)
-
   -- a turn that stops answers for the whole
   pub going-stops : (stop : ℕ) (rs′ : List ℕ) (ps′ : Bytes) → Ran s (run-turn s name f (writing at count used rs ps)) count (at .st) (Stop stop) rs′ ps′
       → _≡_ {A = Outcome} (answered stop count (at .st), rs′, ps′) (run-items s name f st rs₀ ps₀)
   going-stops stop rs′ ps′ e =
-      ap (λ (t : Turn Writing Outcome). says t (run-from s name f)) (sym e) ∙ sym unrolled ∙ g .same
+      ap (λ (t : Turn Writing Outcome). says t (run-from s name f)) (sym e) ∙ sym (unrolled (g .between)) ∙ g .same
 
   -- a turn that wrote an item goes on
   pub going-on : (next : Place) (used′ : ℕ) (rs′ : List ℕ) (ps′ : Bytes)
       → Ran s (run-turn s name f (writing at count used rs ps)) count (at .st) (Wrote next used′) rs′ ps′
       → Going s name f st rs₀ ps₀ next (count + 1) used′ rs′ ps′ × (left s (next .st) < left s (at .st))
   going-on next used′ rs′ ps′ e =
-      let b = between-on (g .between) next used′ rs′ ps′ e in (
-        record { between = b .0; same = ap (λ (t : Turn Writing Outcome). says t (run-from s name f)) (sym (e .0)) ∙ sym unrolled ∙ g .same },
-        b .1,
-      )
+      let b = between-on (g .between) next used′ rs′ ps′ e in
+      (record { between = b .0; same = ran-same (g .between) next used′ rs′ ps′ e ∙ g .same }, b .1)
+
+  -- a run that stands elsewhere, with as much to come, goes on there
+  pub going-from : {there : Place} {count′ used′ : ℕ} {rs′ : List ℕ} {ps′ : Bytes} → Between s name f there count′ used′ rs′ ps′
+      → run-from s name f (writing there count′ used′ rs′ ps′) ≡ run-from s name f (writing at count used rs ps)
+      → Going s name f st rs₀ ps₀ there count′ used′ rs′ ps′
+  going-from b e = record { between = b; same = e ∙ g .same }

@@ -60,6 +60,7 @@ fn octal_at(text: &[u8], i: usize) -> bool
     text[i] <= b'7'
 }
 
+// An operator character stands at i.
 pub fn op_char_at(text: &[u8], table: &[bool; 128], i: usize) -> bool
     requires { ⌜ now table ≡ ascii-table op-char-cps ⌝ }
     ensures { λ r. ⌜ r ≡ byte-has is-op-char (now (text .entry)) i ⌝ }

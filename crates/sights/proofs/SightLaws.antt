@@ -29,8 +29,7 @@ use Rattle.rules.proofs.RuleLaws.{by-rule, ruled-acts, moved-turns, line-turns}
 use Rattle.rules.proofs.Tabling.{select-tabled}
 use Rattle.white_space.specs.White.{Between, Behind}
 use Rattle.white_space.proofs.TurnLaws.{Goes, turn-acts, turn-goes}
-use Rattle.sights.specs.Sights.{Looks, Faces, Sees}
-use Rattle.sights.specs.declared.Sight.{Sight}
+use Rattle.sights.specs.Sights.{Faces, Sees}
 
 -- a choice is one of the places, with a word of its table
 pub sight-tabled : (s f : Bytes) (i : ℕ) (c : Choice) → c ≡ select s f i → Tabled c

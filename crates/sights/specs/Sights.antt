@@ -1,6 +1,6 @@
 -- What stands ahead of a reader, and which item that is. s is the text, name the file's name, f the class file, at the place where the
 -- reader stands, here the one behind white space and line ends.
-use Prim.Native.Nat.{ℕ, _≤_}
+use Prim.Native.Nat.{_≤_}
 use mathlib.Core.Path.{_≡_}
 use mathlib.Core.Bool.{Bool}
 use mathlib.Core.List.{List}

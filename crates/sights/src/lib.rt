@@ -29,7 +29,7 @@ pub enum Ahead {
     Chosen(Choice),
     // A ruling on a choice that ends at byte `end`.
     Ruled { end: usize, ruling: Ruling },
-    // The inside of a comment.
+    // The inside of a comment; or nothing, where the reading has ended.
     Inside,
 }
 

@@ -28,7 +28,7 @@ use Rattle.rules.specs.Acting.{Acts}
 use Rattle.white_space.proofs.TurnLaws.{turn-acts}
 use Rattle.sights.specs.Sights.{Faces}
 use Rattle.sights.proofs.SightLaws.{chosen-acts}
-use Rattle.steps.specs.Ready.{eof, ReadsEach, Lets}
+use Rattle.steps.specs.Items.{eof, ReadsEach, Lets}
 
 -- ---- the text's end
 

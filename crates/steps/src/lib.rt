@@ -22,7 +22,7 @@ ghost use Rattle.described.specs.Standing.{Standing};
 ghost use Rattle.place_rules.specs.Ruling.{rule-of};
 ghost use Rattle.rules.specs.Acting.{Long};
 ghost use Rattle.sights.specs.Sights.{Faces, Readable, ahead-step};
-ghost use Rattle.steps.specs.Ready.{eof, ReadsEach, Lets};
+ghost use Rattle.steps.specs.Items.{eof, ReadsEach, Lets};
 
 const EOF: u32 = 165;
 

@@ -1,4 +1,4 @@
--- White space and line ends that are passed before a turn is taken. s is the text, f the class file.
+-- White space and line ends that are passed before a choice is made. s is the text, f the class file.
 use Prim.Native.Nat.{_-_, _≤_}
 use mathlib.Core.Path.{_≡_}
 use lib.ListN.{length}

@@ -1,5 +1,5 @@
-// White space and line ends of ASCII, which are passed before a turn is taken: nearly half of all turns would read nothing
-// else, and a turn costs far more than a byte.
+// White space and line ends of ASCII, which are passed before a choice is made: nearly half of all choices would be of
+// them, and a choice costs far more than a byte.
 //
 // Proved: from behind what is passed the definition's `next-token` gives the same item, and the reader stands there with a
 // column that is known.

@@ -1,4 +1,4 @@
--- The invariant is `Bursting`: the run goes on as it would have before the first token. The measure is what is left to read.
+-- The invariant is `Bursting`: what is still to come is what was to come before the first token. The measure is what is left to read.
 use mathlib.Core.Path.{_≡_, refl, _∙_}
 use mathlib.Core.List.{[]}
 use lib.ListN.{length}
@@ -6,7 +6,7 @@ use Rattle.progress.proofs.Moves.{left}
 use Rattle.rules.proofs.RuleLaws.{rule-small}
 use Rattle.sights.proofs.SightLaws.{sight-tabled, ruling-chose}
 use Rattle.puts.proofs.TokenLaws.{ruling-asks}
-use Rattle.bursts.proofs.BurstLaws.{no-ruling, a-ruling, Bursting, bursting-starts, bursting-looks, bursting-writes, bursting-chosen, bursting-left, bursting-put, leads-nowhere}
+use Rattle.bursts.proofs.BurstLaws.{no-ruling, a-ruling, Bursting, bursting-starts, bursting-looks, bursting-writes, bursting-chosen, bursting-left, bursting-put, bursts-nowhere}
 use native.Mathlib.Omega.{arith}
 use borrow.Author.Needs.{needs}
 use Rattle.bursts.proofs.write_tokens.Statement.{statement}
@@ -20,7 +20,7 @@ abbrev μ-loop : tie.MeasureT-loop
 μ-loop text classes ops symbols begun filled records₀ bytes₀ at₀ count₀ used₀ plain₀ records bytes at count used plain = left text (at .st)
 
 returns : tie.Need-returns Inv-loop μ-loop
-returns c = leads-nowhere (c .before .before .before .before .before .before .before .pre .0) (c .if1 .taken)
+returns c = bursts-nowhere (c .before .before .before .before .before .before .before .pre .0) (c .if1 .taken)
 
 loop-holds : tie.Need-loop-holds Inv-loop μ-loop
 loop-holds c = (bursting-starts (c .before .before .before .before .before .before .before .pre .0) (c .if1 .left), refl, refl)

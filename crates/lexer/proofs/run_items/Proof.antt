@@ -6,6 +6,7 @@ use lib.ListN.{length}
 use Rattle.progress.proofs.Moves.{left}
 use Rattle.run_turns.specs.Running.{Going}
 use Rattle.run_turns.proofs.RunLaws.{between-any, going-starts, going-stops, going-on}
+use Rattle.lexer.proofs.ItemLaws.{behind}
 use native.Mathlib.Omega.{arith}
 use borrow.Author.Needs.{needs}
 use Rattle.lexer.proofs.run_items.Statement.{statement}
@@ -42,7 +43,7 @@ write-tokens-requires c κs =
 turn-requires : tie.Need-turn-requires Inv-loop μ-loop
 turn-requires c κs =
     let w = c .before .before .before .before .before .before .before .before .write-tokens .ensures in
-    let g = w .going _ _ _ _ (c .before .before .before .before .before .before .before .before .before .before .before .before .before .loop .inv .0) in
+    let g = behind (c .before .before .before .before .before .before .before .before .before .before .before .before .before .loop .inv .0) w in
     (g .between, w .ahead _ (g .between .named))
 
 enum-known-stop : tie.Need-enum-known-stop Inv-loop μ-loop
@@ -50,7 +51,7 @@ enum-known-stop c = search needs
 
 cast-t33 : tie.Need-cast-t33 Inv-loop μ-loop
 cast-t33 c =
-    let g = c .before .before .before .before .before .before .before .before .before .before .before .before .before .before .before .before .before .before .write-tokens .ensures .going _ _ _ _ (c .before .before .before .before .before .before .before .before .before .before .before .before .before .before .before .before .before .before .before .before .before .before .before .loop .inv .0) in
+    let g = behind (c .before .before .before .before .before .before .before .before .before .before .before .before .before .before .before .before .before .before .before .before .before .before .before .loop .inv .0) (c .before .before .before .before .before .before .before .before .before .before .before .before .before .before .before .before .before .before .write-tokens .ensures) in
     omega (arith, g .between .kept .few)
 
 same-length : tie.Need-same-length Inv-loop μ-loop
@@ -61,7 +62,7 @@ same-length-2 c = c .before .before .before .before .before .before .before .bef
 
 returns : tie.Need-returns Inv-loop μ-loop
 returns c =
-    let g = c .before .before .before .before .before .before .before .before .before .before .before .before .before .before .before .before .before .before .write-tokens .ensures .going _ _ _ _ (c .before .before .before .before .before .before .before .before .before .before .before .before .before .before .before .before .before .before .before .before .before .before .before .loop .inv .0) in
+    let g = behind (c .before .before .before .before .before .before .before .before .before .before .before .before .before .before .before .before .before .before .before .before .before .before .before .loop .inv .0) (c .before .before .before .before .before .before .before .before .before .before .before .before .before .before .before .before .before .before .write-tokens .ensures) in
     going-stops g _ _ _ (rw (c .before .before .before .stop .given .1) at (c .before .before .before .before .before .before .before .before .before .turn .ensures))
 
 enum-known-next : tie.Need-enum-known-next Inv-loop μ-loop
@@ -69,13 +70,13 @@ enum-known-next c = search needs
 
 add-count : tie.Need-add-count Inv-loop μ-loop
 add-count c =
-    let g = c .before .before .before .before .before .before .before .before .before .before .before .before .before .before .before .before .before .write-tokens .ensures .going _ _ _ _ (c .before .before .before .before .before .before .before .before .before .before .before .before .before .before .before .before .before .before .before .before .before .before .loop .inv .0) in
+    let g = behind (c .before .before .before .before .before .before .before .before .before .before .before .before .before .before .before .before .before .before .before .before .before .before .loop .inv .0) (c .before .before .before .before .before .before .before .before .before .before .before .before .before .before .before .before .before .write-tokens .ensures) in
     omega (arith, g .between .kept .few)
 
 loop-less : tie.Need-loop-less Inv-loop μ-loop
 loop-less c =
     let w = c .before .before .before .before .before .before .before .before .before .before .before .before .before .before .before .before .before .write-tokens .ensures in
-    let g = w .going _ _ _ _ (c .before .before .before .before .before .before .before .before .before .before .before .before .before .before .before .before .before .before .before .before .before .before .loop .inv .0) in
+    let g = behind (c .before .before .before .before .before .before .before .before .before .before .before .before .before .before .before .before .before .before .before .before .before .before .loop .inv .0) w in
     let on = going-on g _ _ _ _ (rw (c .before .before .next .given .1) at (c .before .before .before .before .before .before .before .before .turn .ensures)) in
     omega (arith, on .1, w .less)
 
@@ -84,7 +85,7 @@ loop-again c =
     let t = c .before .before .before .before .before .before .before .before in
     let w = c .before .before .before .before .before .before .before .before .before .before .before .before .before .before .before .before .before in
     let l = c .before .before .before .before .before .before .before .before .before .before .before .before .before .before .before .before .before .before .before .before .before .before in
-    let g = w .write-tokens .ensures .going _ _ _ _ (l .loop .inv .0) in
+    let g = behind (l .loop .inv .0) (w .write-tokens .ensures) in
     (going-on g _ _ _ _ (rw (c .before .before .next .given .1) at (t .turn .ensures)) .0, t .turn .kept .1 .1 .1 .1 .1 .1 .1 .1 .0 ∙ w .write-tokens .kept .1 .1 .1 .1 .1 .1 .1 .0 ∙ l .loop .inv .1, t .turn .kept .1 .1 .1 .1 .1 .1 .1 .1 .1 .0 ∙ w .write-tokens .kept .1 .1 .1 .1 .1 .1 .1 .1 .0 ∙ l .loop .inv .2)
 
 pub run-items-spec : {M : Type 1} → statement M

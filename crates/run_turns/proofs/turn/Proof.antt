@@ -1,5 +1,4 @@
 -- Each return is a way that the definition's turn goes.
-use Prim.Native.Nat.{_≤_}
 use Rattle.run_turns.specs.Running.{writing}
 use Rattle.run_turns.proofs.TurnLaws.{turn-ended, turn-full, ahead-reads, long-ran, wrote-ran, size-small, measurable, item-fits}
 use native.Mathlib.Omega.{arith}
