@@ -2,14 +2,14 @@
 // Proved: each function is safe and ends, and the buffer is as long as it is said to be. Assumed: what `libc` and `os` declare
 // of reading and writing.
 use case_lines::word_end;
-use comparing::report::Site;
-use comparing::report::differs;
-use comparing::report::second;
-use gathering::Case;
-use gathering::FINE;
-use gathering::SECOND;
+use case_numbers::Case;
+use case_numbers::FINE;
+use case_numbers::SECOND;
 use inputs::read_opened;
 use libc::STDOUT_FILENO;
+use reports::Site;
+use reports::differs;
+use reports::second;
 use std::num::wrapping_add_u64;
 ghost use mathlib.Core.Path.{_≡_};
 ghost use lib.ListN.{length};
@@ -87,7 +87,7 @@ pub fn closed(before: Progress, n: u64) -> Progress {
     now
 }
 
-// Opens a file of cases, in the order in which `comparing` names them.
+// Opens a file of cases, in the order in which `reports` names them.
 fn open_cases(file: u32) -> i32 {
     match file {
         0 => os::open_read(b"document.cases"),

@@ -1,19 +1,17 @@
 // The runs of a case: one over the whole text, and one split into pieces of a single item by buffers that just hold it.
 // Proved: each function is safe and ends. Assumed: what `libc` declares of `write`.
-use comparing::compare::BYTES;
-use comparing::compare::NUMBERS;
-use comparing::compare::RECORD;
-use comparing::compare::blank_bytes;
-use comparing::compare::blank_numbers;
-use comparing::compare::size_at;
-use comparing::report::Site;
-use comparing::report::same_number;
+use case_store::CLASSES;
+use case_store::NAME;
+use case_store::TEXT;
+use case_store::filled;
 use definition::RunAnswer;
 use definition::State;
-use gathering::store::CLASSES;
-use gathering::store::NAME;
-use gathering::store::TEXT;
-use gathering::store::filled;
+use due_buffers::BYTES;
+use due_buffers::NUMBERS;
+use due_buffers::RECORD;
+use due_buffers::blank_bytes;
+use due_buffers::blank_numbers;
+use due_buffers::size_at;
 use inputs::least;
 use outcomes::Done;
 use outcomes::Run;
@@ -21,6 +19,8 @@ use outcomes::same_answer;
 use outcomes::same_buffers;
 use outcomes::stop_behind;
 use outcomes::told_at_end;
+use reports::Site;
+use reports::same_number;
 use std::num::wrapping_add_u64;
 use std::num::wrapping_add_usize;
 ghost use Prim.Native.Nat.{_≤_};

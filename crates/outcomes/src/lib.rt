@@ -1,26 +1,26 @@
 // What the runs of a case should give, and whether they do: their answers, what they leave in their buffers, and the states at
 // the start and at the end.
 // Proved: each function is safe and ends. Assumed: what `libc` declares of `write`.
-use comparing::compare::BYTES;
-use comparing::compare::NUMBERS;
-use comparing::compare::RECORD;
-use comparing::compare::blank_bytes;
-use comparing::compare::blank_numbers;
-use comparing::compare::put_bytes;
-use comparing::compare::put_records;
-use comparing::compare::same_bytes;
-use comparing::compare::same_numbers;
-use comparing::compare::same_state;
-use comparing::report::Site;
-use comparing::report::differs;
-use comparing::report::same_count;
-use comparing::report::same_number;
+use case_numbers::Case;
+use case_numbers::zeros;
+use case_store::PAYLOAD;
+use case_store::filled;
+use comparing::same_bytes;
+use comparing::same_numbers;
+use comparing::same_state;
 use definition::RunAnswer;
 use definition::State;
-use gathering::Case;
-use gathering::store::PAYLOAD;
-use gathering::store::filled;
-use gathering::zeros;
+use due_buffers::BYTES;
+use due_buffers::NUMBERS;
+use due_buffers::RECORD;
+use due_buffers::blank_bytes;
+use due_buffers::blank_numbers;
+use due_buffers::put_bytes;
+use due_buffers::put_records;
+use reports::Site;
+use reports::differs;
+use reports::same_count;
+use reports::same_number;
 use std::num::wrapping_add_u64;
 ghost use Prim.Native.Nat.{_≤_};
 ghost use lib.ListN.{length};

@@ -2,8 +2,8 @@
 use Prim.Native.Nat.{ℕ}
 use mathlib.Core.Path.{sym}
 use lib.ListN.{length-replicate}
-use Rattle.gathering.proofs.store.store_buffer.Statement.{statement}
-use Rattle.gathering.proofs.store.store_buffer.Tie as tie
+use Rattle.case_store.proofs.store_buffer.Statement.{statement}
+use Rattle.case_store.proofs.store_buffer.Tie as tie
 
 returns : tie.Need-returns
 returns c = sym (length-replicate {A = ℕ} 1126403 0)

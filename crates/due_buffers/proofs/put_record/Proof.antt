@@ -3,8 +3,8 @@ use mathlib.Core.Path.{_≡_}
 use Prim.Native.Nat.{_≤_, _-_}
 use lib.ListN.{length}
 use borrow.Author.Needs.{needs}
-use Rattle.comparing.proofs.compare.put_record.Statement.{statement}
-use Rattle.comparing.proofs.compare.put_record.Tie as tie
+use Rattle.due_buffers.proofs.put_record.Statement.{statement}
+use Rattle.due_buffers.proofs.put_record.Tie as tie
 
 abbrev Inv-loop : tie.InvT-loop
 Inv-loop want at used numbers₀ to i₀ numbers i = (i ≤ 16) × (length numbers ≡ length numbers₀)

@@ -2,8 +2,8 @@
 use Prim.Native.Nat.{_-_}
 use lib.ListN.{length}
 use borrow.Author.Needs.{needs}
-use Rattle.comparing.proofs.compare.size_of_all.Statement.{statement}
-use Rattle.comparing.proofs.compare.size_of_all.Tie as tie
+use Rattle.due_buffers.proofs.size_of_all.Statement.{statement}
+use Rattle.due_buffers.proofs.size_of_all.Tie as tie
 
 abbrev Inv-loop : tie.InvT-loop
 Inv-loop want at₀ size₀ at size = Unit {0}

@@ -3,8 +3,8 @@ use mathlib.Core.Path.{_≡_}
 use Prim.Native.Nat.{_≤_, _-_}
 use lib.ListN.{length}
 use borrow.Author.Needs.{needs}
-use Rattle.gathering.proofs.add_item.Statement.{statement}
-use Rattle.gathering.proofs.add_item.Tie as tie
+use Rattle.case_numbers.proofs.add_item.Statement.{statement}
+use Rattle.case_numbers.proofs.add_item.Tie as tie
 
 abbrev Inv-loop : tie.InvT-loop
 Inv-loop values want₀ used i₀ want i = (i ≤ 16) × (length want ≡ length want₀)
