@@ -3,64 +3,33 @@
 // file of no bytes, which the class check refuses with 3. The name is `stdin`, the start 1:0.
 //
 // Proved: it ends; each run is the definition's (crate `lexer`), and what it leaves in the buffer to be written are the
-// definition's lines of its records, so that in all it is a line for each item (proofs/Whole.antt); the number behind END is
-// the count of all items, and REFUSED comes only where the first run is refused. What it writes for document 01's text is
-// compared with the file stdout. Assumed: what `libc` and `os` declare of reading and writing; a read that fails counts as
-// the end of what is read. No contract says what `main` hands over to be written.
+// definition's lines of its records, so that in all it is a line for each item (proofs/Whole.antt of crate `rounds`); the
+// number behind END is the count of all items, and REFUSED comes only where the first run is refused. What it writes for
+// document 01's text is compared with the file stdout. Assumed: what `libc` and `os` declare of reading and writing; a read
+// that fails counts as the end of what is read. No contract says what `main` hands over to be written.
 use definition::State;
 use inputs::class_buffer;
 use inputs::read_classes;
 use lexer::run;
 use libc::STDIN_FILENO;
 use libc::STDOUT_FILENO;
-use lines::lines_into;
+use rounds::Ending;
+use rounds::Round;
+use rounds::line_buffer;
+use rounds::payload_buffer;
+use rounds::record_buffer;
+use rounds::round_of;
+use rounds::too_long;
 use state::start;
-ghost use mathlib.Core.Path.{_≡_};
-ghost use lib.Dec.{ltb};
-ghost use lib.ListN.{length};
 ghost use Rattle.definition.specs.Tables.{cps};
 ghost use Rattle.definition.specs.Run.{run};
-ghost use Rattle.listing.specs.Rounds.{Lent, Begun, Rounded, Ends};
-
-// Space for the records of 1,024 items.
-fn record_buffer() -> [u32; 16384]
-    ensures { λ r. ⌜ 16384 ≡ length r ⌝ }
-{
-    [0; 16384]
-}
-
-// Space for their lines, of which none has more than 106 bytes.
-fn line_buffer() -> [u8; 108544]
-    ensures { λ r. ⌜ 108544 ≡ length r ⌝ }
-{
-    [0; 108544]
-}
-
-// Space for payloads. Any payload of a listed text fits: none has more than four bytes for each byte of the text and a hundred
-// (an unclosed comment has two bytes more than the text has of it, `__FILELINE__` the name and the line).
-fn payload_buffer() -> [u8; 262144]
-    ensures { λ r. ⌜ 262144 ≡ length r ⌝ }
-{
-    [0; 262144]
-}
+ghost use Rattle.rounds.specs.Rounds.{Lent, Begun, Rounded, Ends};
 
 // A line of a word and a number.
 fn say(word: &[u8], number: u64) {
     io::write_all(STDOUT_FILENO, word);
     io::print_decimal(STDOUT_FILENO, number);
     io::write_all(STDOUT_FILENO, b"\n");
-}
-
-// What one run gave: it was refused, or its items are lines at the front of the buffer, with why it stopped and the state to
-// run on from.
-enum Round {
-    Refused(u32),
-    Lines {
-        bytes: usize,
-        items: u32,
-        stop: u32,
-        next: State,
-    },
 }
 
 // Runs once, and makes lines of the items.
@@ -76,23 +45,7 @@ fn run_once(
     ensures { λ r. ⌜ Rounded (run (now (text .entry)) (cps "stdin") (now (classes .entry)) st (now (records .entry)) (now (payload .entry))) (now (out .entry)) r (now (out .exit)) ⌝ }
 {
     let answer = run(text, b"stdin", classes, st, records, payload);
-    if answer.refusal != 0 {
-        return Round::Refused(answer.refusal);
-    }
-    let bytes = lines_into(records, answer.count as usize, out);
-    let next = answer.state;
-    Round::Lines {
-        bytes: bytes,
-        items: answer.count,
-        stop: answer.stop,
-        next: next,
-    }
-}
-
-// How the listing ends: with a refusal, or with so many items listed.
-enum Ending {
-    Refusal(u32),
-    All(u64),
+    round_of(answer, records, out)
 }
 
 // Runs on from a state until the end, and writes the lines of each run at once. Only the first run can be refused, since the
@@ -137,13 +90,6 @@ fn say_ending(ending: Ending) {
         Ending::Refusal(number) => say(b"REFUSED ", number as u64),
         Ending::All(items) => say(b"END ", items),
     }
-}
-
-// Whether a text of so many bytes is too long to be listed.
-fn too_long(bytes: usize) -> bool
-    ensures { λ r. ⌜ r ≡ ltb 60000 bytes ⌝ }
-{
-    60000 < bytes
 }
 
 // The lines of a text under a class file.

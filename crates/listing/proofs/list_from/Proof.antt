@@ -6,7 +6,8 @@ use Rattle.definition.specs.Utf8.{encode, encode-all}
 use Rattle.definition.specs.Tables.{cps}
 use Rattle.progress.proofs.Moves.{left}
 use Rattle.lines.proofs.LineLaws.{wrote-within}
-use Rattle.listing.proofs.RunsOn.{Going, going-starts, going-on, round-fewer, round-wrote, round-few, ends-refused, ends-all}
+use Rattle.rounds.specs.Rounds.{Told}
+use Rattle.rounds.proofs.RunsOn.{Going, going-starts, going-on, round-fewer, round-wrote, round-few, ends-refused, ends-all}
 use borrow.Author.Needs.{needs}
 use Rattle.listing.proofs.list_from.Statement.{statement}
 use Rattle.listing.proofs.list_from.Tie as tie
@@ -37,17 +38,20 @@ same-length-3 : tie.Need-same-length-3 Inv-loop μ-loop
 same-length-3 c = c .before .before .before .before .before .before .before .before .before .run-once .kept .1 .1 .1 .1 .1 .0 ∙ c .before .before .before .before .before .before .before .before .before .before .before .before .before .loop .inv .lines
 
 returns : tie.Need-returns Inv-loop μ-loop
+unfolding Told
 returns c = ends-refused (c .before .before .before .before .before .before .before .before .before .before .before .before .before .loop .inv) (rw (c .before .number .given .1) at (c .before .before .before .before .before .before .before .before .before .run-once .ensures))
 
 enum-known-bytes : tie.Need-enum-known-bytes Inv-loop μ-loop
 enum-known-bytes c = search needs
 
 slice-reshare-prefix-write-all : tie.Need-slice-reshare-prefix-write-all Inv-loop μ-loop
+unfolding Told
 slice-reshare-prefix-write-all c =
     let l = rw (c .before .bytes .given .1) at (c .before .before .before .before .before .before .before .before .before .run-once .ensures) in
     wrote-within (l .written)
 
 slice-aggregate-write-all : tie.Need-slice-aggregate-write-all Inv-loop μ-loop
+unfolding Told
 slice-aggregate-write-all c =
     let l = rw (c .before .before .bytes .given .1) at (c .before .before .before .before .before .before .before .before .before .before .run-once .ensures) in
     sym (length-take-le _ _ (wrote-within (l .written)))
@@ -59,6 +63,7 @@ cast-listed : tie.Need-cast-listed Inv-loop μ-loop
 cast-listed c = search needs
 
 add-listed : tie.Need-add-listed Inv-loop μ-loop
+unfolding Told
 add-listed c =
     let l = rw (c .before .before .before .bytes .given .1) at (c .before .before .before .before .before .before .before .before .before .before .before .run-once .ensures) in
     record { fits = omega (arith, round-few (c .before .before .before .before .before .before .before .before .before .before .before .before .before .before .before .loop .inv) l) }
@@ -73,18 +78,20 @@ same-length-6 : tie.Need-same-length-6 Inv-loop μ-loop
 same-length-6 c = c .before .before .before .before .before .before .before .before .before .before .before .before .run-once .kept .1 .1 .1 .1 .1 .0 ∙ c .before .before .before .before .before .before .before .before .before .before .before .before .before .before .before .before .loop .inv .lines
 
 returns-2 : tie.Need-returns-2 Inv-loop μ-loop
+unfolding Told
 returns-2 c =
     let l = rw (c .before .before .before .before .bytes .given .1) at (c .before .before .before .before .before .before .before .before .before .before .before .before .run-once .ensures) in
     ends-all (c .before .before .before .before .before .before .before .before .before .before .before .before .before .before .before .before .loop .inv) l (c .if1 .taken)
 
 loop-less : tie.Need-loop-less Inv-loop μ-loop
-unfolding cps encode-all encode
+unfolding cps encode-all encode Told
 loop-less c =
     let l = rw (c .before .before .before .before .bytes .given .1) at (c .before .before .before .before .before .before .before .before .before .before .before .before .run-once .ensures) in
     let g = c .before .before .before .before .before .before .before .before .before .before .before .before .before .before .before .before .loop .inv in
     omega (arith, round-fewer g l, round-wrote g l (omega arith) (c .if1 .left))
 
 loop-again : tie.Need-loop-again Inv-loop μ-loop
+unfolding Told
 loop-again c =
     let l = rw (c .before .before .before .before .bytes .given .1) at (c .before .before .before .before .before .before .before .before .before .before .before .before .run-once .ensures) in
     let k = c .before .before .before .before .before .before .before .before .before .before .before .before .run-once .kept in

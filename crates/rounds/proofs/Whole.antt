@@ -18,7 +18,7 @@ use Rattle.runs.proofs.Items.{steps-of-end, steps-then}
 use Rattle.runs.proofs.Buffers.{words-size}
 use Rattle.runs.proofs.Laws.{run-done}
 use Rattle.lines.specs.Line.{line, lines}
-use Rattle.listing.specs.Rounds.{lines-of, listing}
+use Rattle.rounds.specs.Rounds.{lines-of, listing}
 
 -- a line doesn't show word 6
 line-without-6 : (t : Item) (used : ℕ) → line (words t used) ≡ line (words t 0)

@@ -7,14 +7,15 @@ use Rattle.definition.specs.Basics.{Bytes}
 use Rattle.definition.specs.State.{started}
 use Rattle.definition.specs.Item.{Step, words}
 use Rattle.definition.specs.Run.{Outcome, refusal}
+use Rattle.definition.specs.declared.RunAnswer.{RunAnswer}
 use Rattle.definition.specs.declared.State.{State}
 use Rattle.lemmas.specs.Over.{Wrote}
 use Rattle.runs.specs.Items.{steps-of}
 use Rattle.lines.specs.Line.{line, lines}
-use Rattle.listing.specs.declared.Ending.{Ending}
-use Rattle.listing.specs.declared.Ending.the-variants.{Refusal, All}
-use Rattle.listing.specs.declared.Round.{Round}
-use Rattle.listing.specs.declared.Round.the-variants.{Refused, Lines}
+use Rattle.rounds.specs.declared.Ending.{Ending}
+use Rattle.rounds.specs.declared.Ending.the-variants.{Refusal, All}
+use Rattle.rounds.specs.declared.Round.{Round}
+use Rattle.rounds.specs.declared.Round.the-variants.{Refused, Lines}
 
 -- a text that is listed, and its start
 pub record Begun (s : Bytes) (st : State) : Type 0 where
@@ -27,24 +28,28 @@ pub record Lent (rs : List ℕ) (ps out : Bytes) : Type 0 where
   pub payload : length ps ≡ 262144
   pub lines : length out ≡ 108544
 
--- a run with the outcome o was refused with this number, and the buffer is as it was
-pub record Refuses (o : Outcome) (before : Bytes) (number : ℕ) (after : Bytes) : Type 0 where
-  pub refusal : o .0 .refusal ≡ number
+-- a run with the answer r was refused with this number, and the buffer is as it was
+pub record Refuses (r : RunAnswer) (before : Bytes) (number : ℕ) (after : Bytes) : Type 0 where
+  pub refusal : r .refusal ≡ number
   pub some : number ≡ 0 → ⊥
   pub same : after ≡ before
 
--- the lines of the items of a run with the outcome o, and nothing else, were written to the buffer
-pub record Lists (o : Outcome) (before : Bytes) (bytes items stop : ℕ) (next : State) (after : Bytes) : Type 0 where
-  pub taken : o .0 .refusal ≡ 0
-  pub all-items : items ≡ o .0 .count
-  pub reason : stop ≡ o .0 .stop
-  pub state : next ≡ o .0 .state
-  pub written : Wrote (lines (o .0 .count) (o .1)) before after bytes
+-- the lines of the items of a run with the answer r and the records rs, and nothing else, were written to the buffer
+pub record Lists (r : RunAnswer) (rs : List ℕ) (before : Bytes) (bytes items stop : ℕ) (next : State) (after : Bytes) : Type 0 where
+  pub taken : r .refusal ≡ 0
+  pub all-items : items ≡ r .count
+  pub reason : stop ≡ r .stop
+  pub state : next ≡ r .state
+  pub written : Wrote (lines (r .count) rs) before after bytes
+
+-- what is told of a run with the answer r and the records rs, and left in the buffer
+unfoldable pub Told : RunAnswer → List ℕ → Bytes → Round → Bytes → Type 0
+Told r rs before (Refused number) after = Refuses r before number after
+Told r rs before (Lines bytes items stop next) after = Lists r rs before bytes items stop next after
 
 -- what a round answers, and leaves in the buffer
 abbrev pub Rounded : Outcome → Bytes → Round → Bytes → Type 0
-Rounded o before (Refused number) after = Refuses o before number after
-Rounded o before (Lines bytes items stop next) after = Lists o before bytes items stop next after
+Rounded o = Told (o .0) (o .1)
 
 -- the lines of items; word 6, which no line shows, is 0 here
 unfoldable pub lines-of : List Step → Bytes

@@ -12,7 +12,6 @@ use Rattle.definition.specs.Item.{Step, record-size}
 use Rattle.definition.specs.Run.{Outcome, refusal, run}
 use Rattle.definition.specs.declared.State.{State}
 use Rattle.definition.specs.declared.RunAnswer.{RunAnswer}
-use Rattle.lemmas.specs.Over.{Wrote}
 use Rattle.lemmas.proofs.Cases.{by-outcome}
 use Rattle.progress.proofs.Moves.{left, Opened}
 use Rattle.soundness.proofs.Refusals.{run-accepted}
@@ -21,11 +20,11 @@ use Rattle.runs.specs.Items.{steps-of, Steps}
 use Rattle.runs.specs.Written.{payloads-of, Stops}
 use Rattle.runs.proofs.Items.{step-left, steps-of-end, steps-then}
 use Rattle.runs.proofs.Laws.{run-refused, run-done, handed-back-taken}
-use Rattle.lines.specs.Line.{lines}
 use Rattle.lines.specs.Writing.{Room}
-use Rattle.listing.specs.Rounds.{Begun, Lent, Refuses, Lists, Ends}
-use Rattle.listing.specs.declared.Ending.the-variants.{Refusal, All}
-use Rattle.listing.proofs.PayloadSize.{longest-payload, payload-short}
+use Rattle.rounds.specs.Rounds.{Begun, Lent, Refuses, Lists, Told, Rounded, Ends}
+use Rattle.rounds.specs.declared.Round.{Round}
+use Rattle.rounds.specs.declared.Ending.the-variants.{Refusal, All}
+use Rattle.rounds.proofs.PayloadSize.{longest-payload, payload-short}
 
 -- what a run that isn't refused did: its records fit, and so many items fewer are to come
 pub record Moved (s : Bytes) (st : State) (rs : List ℕ) (r : RunAnswer) : Type 0 where
@@ -98,23 +97,10 @@ module _ (s name f : Bytes) where
 
 -- ---- one round
 
-module _ (o : Outcome) {r : RunAnswer} {rs : List ℕ} {ps : Bytes} (e : _≡_ {A = Outcome} (r, rs, ps) o) where
-  -- the run's answer
-  answer-is : r ≡ o .0
-  answer-is = ap (λ (x : Outcome). x .0) e
-
-  pub round-refused : (before : Bytes) → (r .refusal ≡ 0 → ⊥) → Refuses o before (r .refusal) before
-  round-refused before n = record { refusal = ap (λ (a : RunAnswer). a .refusal) (sym answer-is); some = n; same = refl }
-
-  pub round-listed : {before after : Bytes} {bytes : ℕ} → r .refusal ≡ 0 → Wrote (lines (r .count) rs) before after bytes
-      → Lists o before bytes (r .count) (r .stop) (r .state) after
-  round-listed {before} {after} {bytes} z w = record {
-    taken = ap (λ (a : RunAnswer). a .refusal) (sym answer-is) ∙ z;
-    all-items = ap (λ (a : RunAnswer). a .count) answer-is;
-    reason = ap (λ (a : RunAnswer). a .stop) answer-is;
-    state = ap (λ (a : RunAnswer). a .state) answer-is;
-    written = subst (λ (x : Outcome). Wrote (lines (x .0 .count) (x .1)) before after bytes) e w;
-  }
+-- what is told of a run's answer and records is told of its outcome
+pub round-is : (o : Outcome) (before : Bytes) (x : Round) (after : Bytes) {r : RunAnswer} {rs : List ℕ} {ps : Bytes}
+    → _≡_ {A = Outcome} (r, rs, ps) o → Told r rs before x after → Rounded o before x after
+round-is o before x after e t = subst (λ (y : Outcome). Rounded y before x after) e t
 
 -- there is room for the lines of a run's items
 pub round-room : (s name f : Bytes) (st : State) (rs : List ℕ) (ps : Bytes) {r : RunAnswer} {rs′ : List ℕ} {ps′ out : Bytes}
@@ -154,10 +140,10 @@ going-starts s name f rs ps out st b l = record {
 module _ {s name f : Bytes} {st₀ : State} {rs₀ : List ℕ} {ps₀ out₀ : Bytes} {rs : List ℕ} {ps out : Bytes} {st : State} {listed : ℕ}
     (g : Going s name f st₀ rs₀ ps₀ out₀ rs ps out st listed) where
   -- a round that is refused ends the listing so
-  pub ends-refused : {number : ℕ} {out′ : Bytes} → Refuses (run s name f st rs ps) out number out′ → Ends s name f st₀ (Refusal number)
+  pub ends-refused : {number : ℕ} {out′ : Bytes} → Refuses (run s name f st rs ps .0) out number out′ → Ends s name f st₀ (Refusal number)
   ends-refused r = (sym (r .refusal) ∙ refusal-is s name f st rs ps ∙ g .refuses, r .some)
 
-  module _ {out′ : Bytes} {next : State} {bytes items stop : ℕ} (l : Lists (run s name f st rs ps) out bytes items stop next out′) where
+  module _ {out′ : Bytes} {next : State} {bytes items stop : ℕ} (l : Lists (run s name f st rs ps .0) (run s name f st rs ps .1) out bytes items stop next out′) where
     -- so many items fewer are left
     pub round-fewer : items + left s next ≤ left s st
     round-fewer =
