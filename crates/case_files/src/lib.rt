@@ -1,19 +1,14 @@
 // The files of cases: how far one is read, and what its lines count.
-// Proved: each function is safe and ends, and the buffer is as long as it is said to be. Assumed: what `libc` and `os` declare
-// of reading and writing.
+// Proved: each function is safe and ends. Assumed: what `libc` declares of `write`.
 use case_lines::word_end;
 use case_numbers::Case;
 use case_numbers::FINE;
 use case_numbers::SECOND;
-use inputs::read_opened;
 use libc::STDOUT_FILENO;
 use reports::Site;
 use reports::differs;
 use reports::second;
 use std::num::wrapping_add_u64;
-ghost use mathlib.Core.Path.{_≡_};
-ghost use lib.ListN.{length};
-ghost use Rattle.io.specs.Counts.{Counts};
 
 // How far a file is read: the case that is open, the number of the last line and of the line where the case began, how many
 // cases were run, and how many differences were found.
@@ -26,26 +21,23 @@ pub struct Progress {
 }
 
 impl Progress {
+    // No line read.
+    pub fn new() -> Progress {
+        let none = Case::new(false, [0; 4]);
+        Progress {
+            case: none,
+            number: 0,
+            begun: 0,
+            cases: 0,
+            differences: 0,
+        }
+    }
+
     // So many differences more.
     pub fn more(mut self, n: u64) -> Progress {
         self.differences = wrapping_add_u64(self.differences, n);
         self
     }
-}
-
-// A file of cases.
-pub fn file_buffer() -> [u8; 524288]
-    ensures { λ r. ⌜ 524288 ≡ length r ⌝ }
-{
-    [0; 524288]
-}
-
-// Whether a line says nothing: it is empty or a comment.
-pub fn is_silent(line: &[u8]) -> bool {
-    if line.len() == 0 {
-        return true;
-    }
-    line[0] == b'#'
 }
 
 // What is wrong with a line is a difference.
@@ -85,22 +77,6 @@ pub fn closed(before: Progress, n: u64) -> Progress {
     now.case = none;
     now.cases = wrapping_add_u64(now.cases, 1);
     now
-}
-
-// Opens a file of cases, in the order in which `reports` names them.
-fn open_cases(file: u32) -> i32 {
-    match file {
-        0 => os::open_read(b"document.cases"),
-        1 => os::open_read(b"short.cases"),
-        _ => os::open_read(b"long.cases"),
-    }
-}
-
-// Reads a file of cases and answers how many bytes it has; none where it can't be opened.
-pub fn read_cases(file: u32, lines: &mut [u8]) -> usize
-    ensures { λ r. ⌜ Counts r (now (lines .exit)) ⌝ }
-{
-    read_opened(open_cases(file), lines)
 }
 
 // The last line.

@@ -1,7 +1,8 @@
 -- `check_all` is safe and ends. The buffers keep their lengths; the measure is what is left of the lines.
-use mathlib.Core.Path.{_≡_}
+use mathlib.Core.Path.{_≡_, _∙_}
 use Prim.Native.Nat.{_≤_, _-_}
 use lib.ListN.{length}
+use native.Mathlib.Omega.{arith}
 use borrow.Author.Needs.{needs}
 use Rattle.cases.proofs.check_all.Statement.{statement}
 use Rattle.cases.proofs.check_all.Tie as tie
@@ -34,11 +35,17 @@ part-next-line-end c = search needs
 next-line-requires : tie.Need-next-line-requires Inv-loop μ-loop
 next-line-requires c κs = search needs
 
+settled-requires : tie.Need-settled-requires Inv-loop μ-loop
+settled-requires c κs = search needs
+
 loop-less : tie.Need-loop-less Inv-loop μ-loop
 loop-less c = search needs
 
 loop-again : tie.Need-loop-again Inv-loop μ-loop
-loop-again c = search needs
+loop-again c =
+    let k = c .before .before .before .before .before .before .before .next-line .kept in
+    let i = c .before .before .before .before .before .before .before .before .before .before .before .before .before .before .loop .inv in
+    (k .1 .1 .1 .0 ∙ i .0, k .1 .1 .1 .1 .0 ∙ i .1, omega (arith, k .1 .1 .1 .0, i .2))
 
 same-length : tie.Need-same-length Inv-loop μ-loop
 same-length c = search needs
@@ -62,6 +69,7 @@ check-all-spec =
     part-next-line-start
     part-next-line-end
     next-line-requires
+    settled-requires
     loop-less
     loop-again
     same-length

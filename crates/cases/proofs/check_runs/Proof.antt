@@ -1,109 +1,83 @@
--- `check_runs` is safe and ends. The store is long enough.
+-- `check_runs` is safe and ends. The store is long enough; the measure is how many runs are left.
+use Prim.Native.Nat.{_≤_}
+use lib.ListN.{length}
 use borrow.Author.Needs.{needs}
 use Rattle.cases.proofs.check_runs.Statement.{statement}
 use Rattle.cases.proofs.check_runs.Tie as tie
 
-array-read-filled : tie.Need-array-read-filled
-array-read-filled c = search needs
+abbrev Inv-loop : tie.InvT-loop
+Inv-loop site store want case used n now₀ now = 1126403 ≤ length store
 
-filled-requires : tie.Need-filled-requires
-filled-requires c κs = search needs
+abbrev μ-loop : tie.MeasureT-loop
+μ-loop site store want case used n now₀ now = now .left
 
-check-start-requires : tie.Need-check-start-requires
-check-start-requires c κs = search needs
-
-sub-class-check : tie.Need-sub-class-check
-sub-class-check c = search needs
-
-part-class-check-start : tie.Need-part-class-check-start
-part-class-check-start c = search needs
-
-part-class-check-end : tie.Need-part-class-check-end
-part-class-check-end c = search needs
-
-class-check-requires : tie.Need-class-check-requires
-class-check-requires c κs = search needs
-
-slice-aggregate-same-number : tie.Need-slice-aggregate-same-number
-slice-aggregate-same-number c = search needs
-
-same-number-requires : tie.Need-same-number-requires
-same-number-requires c κs = search needs
-
-wrapping-add-u64-requires : tie.Need-wrapping-add-u64-requires
-wrapping-add-u64-requires c κs = search needs
-
-size-of-all-requires : tie.Need-size-of-all-requires
-size-of-all-requires c κs = search needs
-
-slice-aggregate-same-count : tie.Need-slice-aggregate-same-count
-slice-aggregate-same-count c = search needs
-
-array-read-same-count : tie.Need-array-read-same-count
-array-read-same-count c = search needs
-
-cast-same-count : tie.Need-cast-same-count
-cast-same-count c = search needs
-
-same-count-requires : tie.Need-same-count-requires
-same-count-requires c κs = search needs
-
-wrapping-add-u64-requires-2 : tie.Need-wrapping-add-u64-requires-2
-wrapping-add-u64-requires-2 c κs = search needs
-
-first-state-requires : tie.Need-first-state-requires
+first-state-requires : tie.Need-first-state-requires Inv-loop μ-loop
 first-state-requires c κs = search needs
 
-whole-requires : tie.Need-whole-requires
+check-inputs-requires : tie.Need-check-inputs-requires Inv-loop μ-loop
+check-inputs-requires c κs = search needs
+
+whole-requires : tie.Need-whole-requires Inv-loop μ-loop
 whole-requires c κs = search needs
 
-run-once-requires : tie.Need-run-once-requires
-run-once-requires c κs = c .before .before .before .before .before .before .before .before .before .before .before .before .before .before .before .before .pre
+run-once-requires : tie.Need-run-once-requires Inv-loop μ-loop
+run-once-requires c κs = search needs
 
-wrapping-add-u64-requires-3 : tie.Need-wrapping-add-u64-requires-3
-wrapping-add-u64-requires-3 c κs = search needs
+wrapping-add-u64-requires : tie.Need-wrapping-add-u64-requires Inv-loop μ-loop
+wrapping-add-u64-requires c κs = search needs
 
-returns : tie.Need-returns
+begun-requires : tie.Need-begun-requires Inv-loop μ-loop
+begun-requires c κs = search needs
+
+loop-holds : tie.Need-loop-holds Inv-loop μ-loop
+loop-holds c = search needs
+
+next-run-requires : tie.Need-next-run-requires Inv-loop μ-loop
+next-run-requires c κs = search needs
+
+site-at-requires : tie.Need-site-at-requires Inv-loop μ-loop
+site-at-requires c κs = search needs
+
+run-once-requires-2 : tie.Need-run-once-requires-2 Inv-loop μ-loop
+run-once-requires-2 c κs = search needs
+
+behind-requires : tie.Need-behind-requires Inv-loop μ-loop
+behind-requires c κs = search needs
+
+loop-less : tie.Need-loop-less Inv-loop μ-loop
+loop-less c = search needs
+
+loop-again : tie.Need-loop-again Inv-loop μ-loop
+loop-again c = search needs
+
+array-read-ended : tie.Need-array-read-ended Inv-loop μ-loop
+array-read-ended c = search needs
+
+ended-requires : tie.Need-ended-requires Inv-loop μ-loop
+ended-requires c κs = search needs
+
+returns : tie.Need-returns Inv-loop μ-loop
 returns c = search needs
-
-returns-2 : tie.Need-returns-2
-returns-2 c = search needs
-
-split-requires : tie.Need-split-requires
-split-requires c κs = c .before .before .before .before .before .before .before .before .before .before .before .before .before .before .before .before .before .before .before .before .before .pre
-
-wrapping-add-u64-requires-4 : tie.Need-wrapping-add-u64-requires-4
-wrapping-add-u64-requires-4 c κs = search needs
-
-returns-3 : tie.Need-returns-3
-returns-3 c = search needs
 
 pub check-runs-spec : {M : Type 1} → statement M
 check-runs-spec =
     tie.close
     (tie.spec
-    array-read-filled
-    filled-requires
-    check-start-requires
-    sub-class-check
-    part-class-check-start
-    part-class-check-end
-    class-check-requires
-    slice-aggregate-same-number
-    same-number-requires
-    wrapping-add-u64-requires
-    size-of-all-requires
-    slice-aggregate-same-count
-    array-read-same-count
-    cast-same-count
-    same-count-requires
-    wrapping-add-u64-requires-2
+    Inv-loop
+    μ-loop
     first-state-requires
+    check-inputs-requires
     whole-requires
     run-once-requires
-    wrapping-add-u64-requires-3
-    returns
-    returns-2
-    split-requires
-    wrapping-add-u64-requires-4
-    returns-3)
+    wrapping-add-u64-requires
+    begun-requires
+    loop-holds
+    next-run-requires
+    site-at-requires
+    run-once-requires-2
+    behind-requires
+    loop-less
+    loop-again
+    array-read-ended
+    ended-requires
+    returns)

@@ -2,8 +2,8 @@
 use Prim.Native.Nat.{ℕ}
 use mathlib.Core.Path.{sym}
 use lib.ListN.{length-replicate}
-use Rattle.case_files.proofs.file_buffer.Statement.{statement}
-use Rattle.case_files.proofs.file_buffer.Tie as tie
+use Rattle.case_reading.proofs.file_buffer.Statement.{statement}
+use Rattle.case_reading.proofs.file_buffer.Tie as tie
 
 returns : tie.Need-returns
 returns c = sym (length-replicate {A = ℕ} 524288 0)
