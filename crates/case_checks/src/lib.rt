@@ -1,6 +1,7 @@
 // What is checked of a case before any run: that its lines found room, its start, its class file and the size of its payloads.
 // Proved: each function is safe and ends. Assumed: what `libc` declares of `write`.
 use case_numbers::Case;
+use case_numbers::zeros;
 use case_store::CLASS_ROOM;
 use case_store::CLASSES;
 use case_store::NAME;
@@ -9,9 +10,10 @@ use case_store::NAME_START;
 use case_store::PAYLOAD;
 use case_store::TEXT;
 use case_store::filled;
+use comparing::same_state;
+use definition::State;
 use due_buffers::BYTES;
 use due_buffers::size_of_all;
-use outcomes::check_start;
 use reports::Site;
 use reports::differs;
 use reports::same_count;
@@ -39,6 +41,33 @@ pub fn check_room(site: Site, case: Case, room: usize) -> u64 {
         return differs(site, b"the payloads can't be read");
     }
     0
+}
+
+// The state that a start should give: nine zeros, or zeros but for the line and the line-start column.
+fn start_due(case: Case) -> State {
+    let mut st = zeros();
+    if case.start == 0 {
+        st.line = case.line;
+        st.column = case.column;
+    }
+    st
+}
+
+// The start of a case.
+fn check_start(site: Site, case: Case) -> u64 {
+    let answer = state::start(case.line, case.column);
+    let found = answer.state;
+    let due = start_due(case);
+    let n = same_number(site, b"start's refusal", answer.refusal, case.start);
+    wrapping_add_u64(n, same_state(site, found, due))
+}
+
+// The state that the run of a case begins with.
+pub fn first_state(case: Case) -> State {
+    if case.saved {
+        return case.st;
+    }
+    start_due(case)
 }
 
 // The start and the class check of a case, and the size of its payloads.

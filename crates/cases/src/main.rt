@@ -16,17 +16,15 @@ mod running; // running.rt: a run, compared
 
 use case_checks::check_inputs;
 use case_checks::check_room;
+use case_checks::first_state;
 use case_files::Progress;
 use case_files::closed;
 use case_files::conclude;
-use case_lines::line_after;
-use case_lines::line_end;
 use case_numbers::Case;
 use case_reading::file_buffer;
 use case_reading::finished;
-use case_reading::next_line;
+use case_reading::next_case;
 use case_reading::opened;
-use case_reading::read_cases;
 use case_runs::begun;
 use case_runs::behind;
 use case_runs::ended;
@@ -36,11 +34,11 @@ use case_store::TEXT;
 use case_store::store_buffer;
 use due_buffers::blank_numbers;
 use inputs::least;
-use outcomes::first_state;
 use outcomes::whole;
 use reports::Site;
 use running::run_once;
 use std::num::wrapping_add_u64;
+ghost use mathlib.Core.Path.{_≡_};
 ghost use Prim.Native.Nat.{_≤_};
 ghost use lib.ListN.{length};
 
@@ -75,9 +73,10 @@ fn check_case(site: Site, store: &[u8], want: &[u32], case: Case) -> u64
     check_runs(site, store, &want[..records], case)
 }
 
-// The progress behind a line: where its case is over, it is checked.
+// The progress behind a case that was gathered: where it is over, it is checked.
 fn settled(file: u32, before: Progress, store: &[u8], want: &[u32]) -> Progress
     requires { ⌜ 1126403 ≤ length (now store) ⌝ }
+    ensures { λ r. ⌜ (r .size ≡ before .size) × (r .at ≡ before .at) ⌝ }
 {
     let case = before.case;
     if !case.over {
@@ -91,28 +90,6 @@ fn settled(file: u32, before: Progress, store: &[u8], want: &[u32]) -> Progress
     closed(before, check_case(site, store, want, case))
 }
 
-// The cases of a file.
-fn check_all(
-    file: u32,
-    lines: &[u8],
-    before: Progress,
-    store: &mut [u8],
-    want: &mut [u32],
-) -> Progress
-    requires { ⌜ 1126403 ≤ length (now store) ⌝ }
-{
-    let mut now = before;
-    let mut at = 0;
-    while at < lines.len() {
-        let end = line_end(lines, at);
-        let next = line_after(lines, at, end);
-        let then = next_line(file, &lines[at..end], now, store, want);
-        now = settled(file, then, store, want);
-        at = next;
-    }
-    now
-}
-
 // The progress behind a file.
 fn check_file(
     file: u32,
@@ -123,12 +100,12 @@ fn check_file(
 ) -> Progress
     requires { ⌜ 1126403 ≤ length (now store) ⌝ }
 {
-    let n = read_cases(file, lines);
-    let now = opened(file, before, n, lines.len());
-    if n == lines.len() {
-        return now;
+    let mut now = opened(file, before, lines);
+    while now.at < now.size {
+        let then = next_case(file, lines, now, store, want);
+        now = settled(file, then, store, want);
     }
-    finished(file, check_all(file, &lines[..n], now, store, want))
+    finished(file, now)
 }
 
 // All files.

@@ -1,8 +1,7 @@
-// What the runs of a case should give, and whether they do: their answers, what they leave in their buffers, and the states at
-// the start and at the end.
+// What the runs of a case should give, and whether they do: their answers, what they leave in their buffers, and the state at
+// the end.
 // Proved: each function is safe and ends. Assumed: what `libc` declares of `write`.
 use case_numbers::Case;
-use case_numbers::zeros;
 use case_store::PAYLOAD;
 use case_store::filled;
 use comparing::same_bytes;
@@ -157,33 +156,6 @@ pub fn told_at_end(site: Site, size: usize, want: &[u32], st: State) -> u64 {
     }
     let end = same_count(site, b"offset at the end", st.offset as u64, size as u64);
     wrapping_add_u64(n, end)
-}
-
-// The state that a start should give: nine zeros, or zeros but for the line and the line-start column.
-fn start_due(case: Case) -> State {
-    let mut st = zeros();
-    if case.start == 0 {
-        st.line = case.line;
-        st.column = case.column;
-    }
-    st
-}
-
-// The start of a case.
-pub fn check_start(site: Site, case: Case) -> u64 {
-    let answer = state::start(case.line, case.column);
-    let found = answer.state;
-    let due = start_due(case);
-    let n = same_number(site, b"start's refusal", answer.refusal, case.start);
-    wrapping_add_u64(n, same_state(site, found, due))
-}
-
-// The state that the run of a case begins with.
-pub fn first_state(case: Case) -> State {
-    if case.saved {
-        return case.st;
-    }
-    start_due(case)
 }
 
 // The state that the run of a case hands back: the case's own, and where it says none, the state given if no item comes.
