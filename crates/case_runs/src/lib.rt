@@ -1,5 +1,7 @@
-// The runs of a case's text split into single items, one after another, by the smallest buffers that make headway.
+// The runs of a case, one after another: one over the whole text, and those of the text split into single items by the smallest
+// buffers that make headway.
 // Proved: each function is safe and ends, and behind each run fewer are left. Assumed: what `libc` declares of `write`.
+use case_checks::first_state;
 use case_numbers::Case;
 use definition::State;
 use due_buffers::BYTES;
@@ -10,6 +12,7 @@ use outcomes::Done;
 use outcomes::Run;
 use outcomes::stop_behind;
 use outcomes::told_at_end;
+use outcomes::whole;
 use reports::Site;
 use reports::same_number;
 use std::num::wrapping_add_u64;
@@ -72,8 +75,14 @@ fn size_from(want: &[u32], at: usize) -> usize {
     size_at(want, at) as usize
 }
 
-// Before the first run of a case that begins with a state, so many lines being written.
-pub fn begun(case: Case, st: State, want: &[u32], differences: u64) -> Course {
+// The run of a case over its whole text, which comes before.
+pub fn first_run(case: Case, want: usize) -> Run {
+    whole(case, first_state(case), want)
+}
+
+// Before the first run of the split text, so many lines being written.
+pub fn begun(case: Case, want: &[u32], differences: u64) -> Course {
+    let st = first_state(case);
     Course {
         begin: st,
         st: st,

@@ -16,7 +16,6 @@ mod running; // running.rt: a run, compared
 
 use case_checks::check_inputs;
 use case_checks::check_room;
-use case_checks::first_state;
 use case_files::Progress;
 use case_files::closed;
 use case_files::conclude;
@@ -28,13 +27,13 @@ use case_reading::opened;
 use case_runs::begun;
 use case_runs::behind;
 use case_runs::ended;
+use case_runs::first_run;
 use case_runs::next_run;
 use case_runs::site_at;
 use case_store::TEXT;
 use case_store::store_buffer;
 use due_buffers::blank_numbers;
 use inputs::least;
-use outcomes::whole;
 use reports::Site;
 use running::run_once;
 use std::num::wrapping_add_u64;
@@ -49,10 +48,9 @@ fn check_runs(site: Site, store: &[u8], want: &[u32], case: Case) -> u64
     requires { ⌜ 1126403 ≤ length (now store) ⌝ }
 {
     let used = case.used;
-    let st = first_state(case);
     let n = check_inputs(site, store, want, case);
-    let done = run_once(site, store, used, want, whole(case, st, want.len()));
-    let mut now = begun(case, st, want, wrapping_add_u64(n, done.differences));
+    let done = run_once(site, store, used, want, first_run(case, want.len()));
+    let mut now = begun(case, want, wrapping_add_u64(n, done.differences));
     while 0 < now.left {
         let run = next_run(now, want.len());
         let came = run_once(site_at(site, now), store, used, want, run);

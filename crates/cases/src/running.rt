@@ -10,10 +10,8 @@ use due_buffers::blank_numbers;
 use inputs::least;
 use outcomes::Done;
 use outcomes::Run;
-use outcomes::same_answer;
-use outcomes::same_buffers;
+use outcomes::compared;
 use reports::Site;
-use std::num::wrapping_add_u64;
 ghost use Prim.Native.Nat.{_≤_};
 ghost use lib.ListN.{length};
 
@@ -74,11 +72,5 @@ pub fn run_once(site: Site, store: &[u8], used: [usize; 4], want: &[u32], run: R
     let mut records = blank_numbers();
     let mut payload = blank_bytes();
     let answer = lend(store, used, run, &mut records, &mut payload);
-    let n = same_answer(site, run, answer);
-    let m = same_buffers(site, store, used, want, run, &records, &payload);
-    let state = answer.state;
-    Done {
-        state: state,
-        differences: wrapping_add_u64(n, m),
-    }
+    compared(site, store, used, want, run, answer, &records, &payload)
 }

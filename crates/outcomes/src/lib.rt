@@ -78,7 +78,7 @@ fn items_due(run: Run) -> u64 {
 }
 
 // A run's answer is what it should be.
-pub fn same_answer(site: Site, run: Run, answer: RunAnswer) -> u64 {
+fn same_answer(site: Site, run: Run, answer: RunAnswer) -> u64 {
     let found = answer.state;
     let due = run.after;
     let mut n = same_number(site, b"refusal", answer.refusal, run.refusal);
@@ -98,7 +98,7 @@ pub fn same_answer(site: Site, run: Run, answer: RunAnswer) -> u64 {
 }
 
 // Both buffers hold what a run should leave there.
-pub fn same_buffers(
+fn same_buffers(
     site: Site,
     store: &[u8],
     used: [usize; 4],
@@ -125,6 +125,28 @@ pub fn same_buffers(
     }
     let n = same_numbers(site, records, &due_records);
     wrapping_add_u64(n, same_bytes(site, payload, &due_payload))
+}
+
+// What came of a run that gave such an answer and left such buffers.
+pub fn compared(
+    site: Site,
+    store: &[u8],
+    used: [usize; 4],
+    want: &[u32],
+    run: Run,
+    answer: RunAnswer,
+    records: &[u32; NUMBERS],
+    payload: &[u8; BYTES],
+) -> Done
+    requires { ⌜ 1126403 ≤ length (now store) ⌝ }
+{
+    let n = same_answer(site, run, answer);
+    let m = same_buffers(site, store, used, want, run, records, payload);
+    let state = answer.state;
+    Done {
+        state: state,
+        differences: wrapping_add_u64(n, m),
+    }
 }
 
 // The stop of a run whose records are full behind number `last` of the wanted ones.

@@ -11,14 +11,11 @@ Inv-loop site store want case used n now₀ now = 1126403 ≤ length store
 abbrev μ-loop : tie.MeasureT-loop
 μ-loop site store want case used n now₀ now = now .left
 
-first-state-requires : tie.Need-first-state-requires Inv-loop μ-loop
-first-state-requires c κs = search needs
-
 check-inputs-requires : tie.Need-check-inputs-requires Inv-loop μ-loop
 check-inputs-requires c κs = search needs
 
-whole-requires : tie.Need-whole-requires Inv-loop μ-loop
-whole-requires c κs = search needs
+first-run-requires : tie.Need-first-run-requires Inv-loop μ-loop
+first-run-requires c κs = search needs
 
 run-once-requires : tie.Need-run-once-requires Inv-loop μ-loop
 run-once-requires c κs = search needs
@@ -65,9 +62,8 @@ check-runs-spec =
     (tie.spec
     Inv-loop
     μ-loop
-    first-state-requires
     check-inputs-requires
-    whole-requires
+    first-run-requires
     run-once-requires
     wrapping-add-u64-requires
     begun-requires
