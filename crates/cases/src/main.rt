@@ -91,19 +91,19 @@ fn settled(file: u32, before: Progress, store: &[u8], want: &[u32]) -> Progress
 // The progress behind a file.
 fn check_file(
     file: u32,
-    before: Progress,
+    mut progress: Progress,
     lines: &mut [u8],
     store: &mut [u8],
     want: &mut [u32],
 ) -> Progress
     requires { ⌜ 1126403 ≤ length (now store) ⌝ }
 {
-    let mut now = opened(file, before, lines);
-    while now.at < now.size {
-        let then = next_case(file, lines, now, store, want);
-        now = settled(file, then, store, want);
+    progress = opened(file, progress, lines);
+    while progress.at < progress.size {
+        progress = next_case(file, lines, progress, store, want);
+        progress = settled(file, progress, store, want);
     }
-    finished(file, now)
+    finished(file, progress)
 }
 
 // All files.

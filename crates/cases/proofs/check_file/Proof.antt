@@ -7,11 +7,11 @@ use Rattle.cases.proofs.check_file.Statement.{statement}
 use Rattle.cases.proofs.check_file.Tie as tie
 
 abbrev Inv-loop : tie.InvT-loop
-Inv-loop file lines store₀ want₀ now₀ store want now =
-    (length store ≡ length store₀) × (length want ≡ length want₀) × (1126403 ≤ length store) × (now .size ≤ length lines)
+Inv-loop file progress₀ lines store₀ want₀ progress store want =
+    (length store ≡ length store₀) × (length want ≡ length want₀) × (1126403 ≤ length store) × (progress .size ≤ length lines)
 
 abbrev μ-loop : tie.MeasureT-loop
-μ-loop file lines store₀ want₀ now₀ store want now = now .size - now .at
+μ-loop file progress₀ lines store₀ want₀ progress store want = progress .size - progress .at
 
 opened-requires : tie.Need-opened-requires Inv-loop μ-loop
 opened-requires c κs = search needs
