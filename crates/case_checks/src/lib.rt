@@ -1,4 +1,5 @@
-// What is checked of a case before any run: that its lines found room, its start, its class file and the size of its payloads.
+// What is checked of a case before any run: that its lines found room, its start, its class file and the size of its payloads;
+// and the state that its run begins with.
 // Proved: each function is safe and ends. Assumed: what `libc` declares of `write`.
 use case_numbers::Case;
 use case_numbers::zeros;
