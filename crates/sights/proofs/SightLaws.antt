@@ -2,19 +2,18 @@
 -- progress and of sound states.
 use Prim.Native.Nat.{ℕ, _-_, _≤_, _<_}
 use native.Mathlib.Omega.{arith}
-use mathlib.Core.Path.{_≡_, refl, sym, ap, subst, _∙_}
+use mathlib.Core.Path.{_≡_, refl, sym, ap, _∙_}
 use mathlib.Core.Bool.{false}
 use mathlib.Core.List.{[]}
 use lib.Dec.{eqb}
 use lib.ListN.{length}
-use borrow.Author.Tests.{eqb-false, ne-eqb, lt-leb}
+use borrow.Author.Tests.{eqb-false}
 use Rattle.definition.specs.Basics.{Bytes}
 use Rattle.definition.specs.ClassFile.{class-check}
 use Rattle.definition.specs.Select.{select}
-use Rattle.definition.specs.Token.{Token-turn, act, token-turn, next-token}
+use Rattle.definition.specs.Token.{Token-turn, next-token}
 use Rattle.definition.specs.declared.Choice.{Choice}
 use Rattle.lemmas.proofs.Loops.{says}
-use Rattle.progress.proofs.Choices.{Fits, select-fits}
 use Rattle.progress.proofs.Tokens.{token-unroll}
 use Rattle.described.specs.Described.{Turns}
 use Rattle.described.specs.Places.{moved, next-line}
@@ -22,11 +21,9 @@ use Rattle.described.specs.declared.Place.{Place}
 use Rattle.described.specs.declared.Turned.the-variants.{Again}
 use Rattle.rulings.specs.Rulings.{Chose, Rules, ruling-step}
 use Rattle.rulings.specs.declared.Ruling.{Ruling}
-use Rattle.place_rules.specs.Ruling.{rule-numbers, rule-of, does}
-use Rattle.place_rules.specs.Tabled.{Tabled}
+use Rattle.place_rules.specs.Ruling.{rule-of, does}
 use Rattle.rules.specs.Acting.{Acts, Short}
 use Rattle.rules.proofs.RuleLaws.{some-chosen, by-rule, ruled-acts, moved-turns, line-turns}
-use Rattle.rules.proofs.Tabling.{select-tabled}
 use Rattle.white_space.specs.White.{Between, Behind}
 use Rattle.white_space.proofs.TurnLaws.{Goes, turn-is, turn-acts, turn-goes}
 use Rattle.sights.specs.Sights.{Faces, Sees}

@@ -1,6 +1,5 @@
 -- `is_ll` meets its contract: c is in one of the ranges where a range is found; where its block tells, its bit is its test.
 use mathlib.Core.Path.{ap, _∙_}
-use native.Mathlib.Omega.{arith}
 use borrow.Author.Needs.{needs}
 use Rattle.definition.specs.Lowercase.{is-ll}
 use Rattle.members.specs.Search.{is-found}
