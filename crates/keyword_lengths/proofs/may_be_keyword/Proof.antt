@@ -1,10 +1,10 @@
 -- The tests are the definition's, one after the other; a length of at most 31 is below the width of what is shifted.
 use borrow.Author.Needs.{needs}
 use Rattle.lemmas.proofs.Cases.{all-tests}
-use Rattle.lookups.specs.Places.{may-be-keyword}
-use Rattle.lookups.proofs.Lengths.{empty-fails, by-length}
-use Rattle.lookups.proofs.table.may_be_keyword.Statement.{statement}
-use Rattle.lookups.proofs.table.may_be_keyword.Tie as tie
+use Rattle.keyword_lengths.specs.Lengths.{may-be-keyword}
+use Rattle.keyword_lengths.proofs.LengthLaws.{empty-fails, by-length}
+use Rattle.keyword_lengths.proofs.may_be_keyword.Statement.{statement}
+use Rattle.keyword_lengths.proofs.may_be_keyword.Tie as tie
 
 returns : tie.Need-returns
 returns c = empty-fails _ (c .if1 .taken)

@@ -10,8 +10,8 @@ use Rattle.spellings.specs.Words.{words}
 use Rattle.lookups.specs.Places.{key, hop}
 use Rattle.lookups.proofs.Chains.{up-to-at, Seeking, nexts, next-at, next-later, seeking-starts, seeking-found, seeking-goes-on, seeking-ends}
 use borrow.Author.Needs.{needs}
-use Rattle.lookups.proofs.table.follow.Statement.{statement}
-use Rattle.lookups.proofs.table.follow.Tie as tie
+use Rattle.lookups.proofs.follow.Statement.{statement}
+use Rattle.lookups.proofs.follow.Tie as tie
 
 abbrev Inv-loop : tie.InvT-loop
 Inv-loop id start stop k₀ k = Seeking id start stop k

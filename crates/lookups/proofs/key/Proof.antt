@@ -6,8 +6,8 @@ use lib.ListN.{length}
 use borrow.Author.Needs.{needs}
 use Rattle.lookups.specs.Places.{key}
 use Rattle.lookups.proofs.Chains.{key-empty}
-use Rattle.lookups.proofs.table.key.Statement.{statement}
-use Rattle.lookups.proofs.table.key.Tie as tie
+use Rattle.lookups.proofs.key.Statement.{statement}
+use Rattle.lookups.proofs.key.Tie as tie
 
 returns : tie.Need-returns
 returns c = key-empty _ (c .if1 .taken)

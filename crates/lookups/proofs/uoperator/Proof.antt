@@ -8,8 +8,8 @@ use Rattle.spellings.specs.Words.{words}
 use Rattle.lookups.specs.Places.{key, hop}
 use Rattle.lookups.proofs.Chains.{up-to-at, firsts, first-at, key-small, chain-begins, seek-table}
 use borrow.Author.Needs.{needs}
-use Rattle.lookups.proofs.table.uoperator.Statement.{statement}
-use Rattle.lookups.proofs.table.uoperator.Tie as tie
+use Rattle.lookups.proofs.uoperator.Statement.{statement}
+use Rattle.lookups.proofs.uoperator.Tie as tie
 
 key-requires : tie.Need-key-requires
 key-requires c κs = search needs

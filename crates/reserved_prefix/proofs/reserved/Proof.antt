@@ -3,9 +3,9 @@ use native.Mathlib.Omega.{arith}
 use Prim.Native.Nat.{_-_}
 use borrow.Author.Needs.{needs}
 use Rattle.same_bytes.proofs.Prefix.{Agrees, agrees-starts, agrees-goes-on, agrees-stops, agrees-short, agrees-ends}
-use Rattle.lookups.proofs.Prefix.{letters, decided}
-use Rattle.lookups.proofs.reserved.Statement.{statement}
-use Rattle.lookups.proofs.reserved.Tie as tie
+use Rattle.reserved_prefix.proofs.Prefix.{letters, decided}
+use Rattle.reserved_prefix.proofs.reserved.Statement.{statement}
+use Rattle.reserved_prefix.proofs.reserved.Tie as tie
 
 abbrev Inv-loop : tie.InvT-loop
 Inv-loop id i₀ i = Agrees id letters i

@@ -1,10 +1,10 @@
 -- Each arm has the lengths that the definition's keywords give for its byte; no keyword begins with any other byte of ASCII.
 use Rattle.definition.specs.Utf8.{encode, encode-all}
 use Rattle.definition.specs.Tables.{cps, keywords}
-use Rattle.lookups.specs.Places.{lengths, with-bit}
-use Rattle.lookups.proofs.Lengths.{no-first}
-use Rattle.lookups.proofs.table.lengths.Statement.{statement}
-use Rattle.lookups.proofs.table.lengths.Tie as tie
+use Rattle.keyword_lengths.specs.Lengths.{lengths, with-bit}
+use Rattle.keyword_lengths.proofs.LengthLaws.{no-first}
+use Rattle.keyword_lengths.proofs.lengths.Statement.{statement}
+use Rattle.keyword_lengths.proofs.lengths.Tie as tie
 
 returns : tie.Need-returns
 unfolding lengths with-bit keywords cps encode-all encode

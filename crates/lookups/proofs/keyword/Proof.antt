@@ -11,8 +11,8 @@ use Rattle.lookups.specs.Places.{key, hop}
 use Rattle.lookups.proofs.Chains.{up-to-at, firsts, first-at, key-small, chain-begins, seek-table}
 use Rattle.lookups.proofs.Lengths.{no-keyword}
 use borrow.Author.Needs.{needs}
-use Rattle.lookups.proofs.table.keyword.Statement.{statement}
-use Rattle.lookups.proofs.table.keyword.Tie as tie
+use Rattle.lookups.proofs.keyword.Statement.{statement}
+use Rattle.lookups.proofs.keyword.Tie as tie
 
 may-be-keyword-requires : tie.Need-may-be-keyword-requires
 may-be-keyword-requires c κs = search needs

@@ -4,9 +4,9 @@ use Rattle.definition.specs.Utf8.{encode, encode-all}
 use Rattle.definition.specs.Tables.{cps, keywords, constructors, uoperators}
 use borrow.Author.Needs.{needs}
 use Rattle.spellings.specs.Words.{words}
 use Rattle.lookups.specs.Places.{place}
-use Rattle.lookups.proofs.table.constructor.Statement.{statement}
-use Rattle.lookups.proofs.table.constructor.Tie as tie
+use Rattle.constructors.proofs.constructor.Statement.{statement}
+use Rattle.constructors.proofs.constructor.Tie as tie
 
 is-word-requires : tie.Need-is-word-requires
 is-word-requires c κs = search needs
