@@ -2,10 +2,10 @@
 //
 // Proved: both functions are the definition's, `found`, and `keep` of what is found.
 // Assumed: nothing.
+use best_choice::keep;
+use best_choice::nothing;
 use definition::Choice;
 use definition::Match;
-use words::keep;
-use words::nothing;
 ghost use mathlib.Core.Path.{_≡_};
 ghost use Rattle.definition.specs.Select.{keep, found};
 

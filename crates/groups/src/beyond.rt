@@ -1,6 +1,8 @@
 // Characters beyond ASCII: each place reads on behind a character that is decoded already.
 use crate::choice::alone;
 use attempts::try_place;
+use best_choice::keep;
+use best_choice::nothing;
 use blanks::star_anywhite;
 use chars::is_anywhite;
 use chars::is_constructor_start;
@@ -9,10 +11,8 @@ use chars::is_uoperator;
 use definition::Choice;
 use definition::Match;
 use fixed_chars::is_newline_char;
+use keyword_operators::kw_op;
 use scan::ident_decoded;
-use words::keep;
-use words::kw_op;
-use words::nothing;
 ghost use mathlib.Core.Path.{_≡_};
 ghost use Rattle.definition.specs.ClassFile.{class-check};
 ghost use Rattle.definition.specs.Chars.{ascii-table, op-char-cps, is-anywhite, is-newline-char, is-ident-start, is-constructor-start, is-ident-char, is-uoperator};

@@ -1,9 +1,9 @@
 // The first choice that is tried: of a place, and of a table.
 use attempts::try_place;
+use best_choice::keep;
+use best_choice::nothing;
 use definition::Choice;
 use definition::Match;
-use words::keep;
-use words::nothing;
 ghost use mathlib.Core.Path.{_≡_};
 ghost use Rattle.groups.specs.Groups.{first, alone};
 

@@ -2,14 +2,14 @@
 use crate::choice::alone;
 use crate::choice::first;
 use attempts::try_place;
+use best_choice::keep;
 use definition::Choice;
 use definition::Match;
+use early_literals::early_literal;
+use keyword_operators::kw_op;
 use operator_tokens::op_token;
 use peeks::match_lit;
 use scan::star_ident_char;
-use words::early_literal;
-use words::keep;
-use words::kw_op;
 ghost use mathlib.Core.Path.{_≡_};
 ghost use Prim.Native.Nat.{_<_};
 ghost use lib.ListN.{length};

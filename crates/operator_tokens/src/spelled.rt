@@ -1,10 +1,10 @@
 // The operator tokens by their first bytes, and the mixfix words, each tried by itself: a table of them would have to be built
 // anew at each token.
+use best_choice::keep;
+use best_choice::nothing;
 use definition::Choice;
 use definition::Match;
 use peeks::match_lit;
-use words::keep;
-use words::nothing;
 ghost use mathlib.Core.Path.{_≡_};
 ghost use mathlib.Core.List.{[], _∷_};
 ghost use Rattle.definition.specs.Basics.{ch};

@@ -6,6 +6,7 @@
 // BeyondAscii).
 // Assumed: nothing but what `select`'s `requires` says: a class file that `class_check` accepts, and the tables of operator
 // and of symbol characters.
+use best_choice::nothing;
 use chars::is_constructor_start;
 use chars::is_ident_start;
 use definition::Choice;
@@ -37,7 +38,6 @@ use groups::quotes::at_quote;
 use groups::white::at_line_end;
 use groups::white::at_white;
 use text::sequence_at;
-use words::nothing;
 ghost use mathlib.Core.Path.{_≡_};
 ghost use Rattle.definition.specs.ClassFile.{class-check};
 ghost use Rattle.definition.specs.Select.{select};

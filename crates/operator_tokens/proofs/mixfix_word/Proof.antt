@@ -8,7 +8,7 @@ use Rattle.operator_tokens.proofs.mixfix_word.Tie as tie
 use Rattle.operator_tokens.proofs.mixfix_word.Reads as reads
 use Rattle.operator_tokens.proofs.mixfix_word.Lts as lts
 use Rattle.peeks.proofs.byte_is.Reads as byte-is-reads
-use Rattle.words.proofs.nothing.Reads as nothing-reads
+use Rattle.best_choice.proofs.nothing.Reads as nothing-reads
 use Rattle.operator_tokens.proofs.spelled.mixfix.Reads as mixfix-reads
 
 -- src/lib.rt:278:8

@@ -8,7 +8,7 @@ use Rattle.operator_tokens.proofs.spelled.at_less.Statement.{statement}
 use Rattle.operator_tokens.proofs.spelled.at_less.Tie as tie
 use Rattle.operator_tokens.proofs.spelled.at_less.Reads as reads
 use Rattle.operator_tokens.proofs.spelled.at_less.Lts as lts
-use Rattle.words.proofs.nothing.Reads as nothing-reads
+use Rattle.best_choice.proofs.nothing.Reads as nothing-reads
 use Rattle.operator_tokens.proofs.spelled.try_word.Reads as try-word-reads
 
 -- src/tokens.rt:96:29

@@ -8,7 +8,7 @@ use Rattle.operator_tokens.proofs.spelled.at_paren.Statement.{statement
 use Rattle.operator_tokens.proofs.spelled.at_paren.Tie as tie
 use Rattle.operator_tokens.proofs.spelled.at_paren.Reads as reads
 use Rattle.operator_tokens.proofs.spelled.at_paren.Lts as lts
-use Rattle.words.proofs.nothing.Reads as nothing-reads
+use Rattle.best_choice.proofs.nothing.Reads as nothing-reads
 use Rattle.operator_tokens.proofs.spelled.try_word.Reads as try-word-reads
 
 -- src/tokens.rt:59:29

@@ -6,8 +6,8 @@ use Rattle.operator_tokens.proofs.spelled.try_word.Tie as tie
 use Rattle.operator_tokens.proofs.spelled.try_word.Reads as reads
 use Rattle.operator_tokens.proofs.spelled.try_word.Lts as lts
 use Rattle.peeks.proofs.match_lit.Reads as match-lit-reads
-use Rattle.words.proofs.keep.Reads as keep-reads
-use Rattle.words.proofs.nothing.Reads as nothing-reads
+use Rattle.best_choice.proofs.keep.Reads as keep-reads
+use Rattle.best_choice.proofs.nothing.Reads as nothing-reads
 
 -- src/tokens.rt:27:26
 match-lit-requires : tie.Need-match-lit-requires
