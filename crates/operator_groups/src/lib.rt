@@ -14,7 +14,7 @@ use groups::alone;
 use groups::first;
 use groups::lit_then_ident;
 use keyword_operators::kw_op;
-use operator_tokens::mixfix_word;
+use mixfix_words::mixfix_word;
 use operator_tokens::op_token;
 use peeks::match_lit;
 use scan::star_symbolchar;
