@@ -1,10 +1,10 @@
 -- The code point is what stands behind the quote.
 use Rattle.definition.specs.Kinds.{kind, kind-names, number-from}
 use Rattle.rulings.proofs.Spanning.{end-asked}
-use Rattle.finishes.proofs.Finishing.{char-does}
+use Rattle.character_literals.proofs.Characters.{char-does}
 use borrow.Author.Needs.{needs}
-use Rattle.finishes.proofs.char_lit.Statement.{statement}
-use Rattle.finishes.proofs.char_lit.Tie as tie
+use Rattle.character_literals.proofs.char_lit.Statement.{statement}
+use Rattle.character_literals.proofs.char_lit.Tie as tie
 
 pos-of-requires : tie.Need-pos-of-requires
 pos-of-requires c κs = search needs
