@@ -1,4 +1,4 @@
-// A place that is tried at an offset after others, the source's `try_`, and a word of a table that is.
+// A place that is tried at an offset after others, the source's `try_`, and a word of a table that is tried likewise.
 //
 // Proved: each function is the definition's, `found`, and `keep` of what is found.
 // Assumed: nothing.

@@ -3,7 +3,8 @@
 // `select` says. Here is what the groups share, and the groups of white space and of line ends; the others are the crates
 // `letter_groups`, `operator_groups`, `number_groups` and `beyond_ascii`.
 //
-// Proved: the answer of each function is what the definition's matchers give, at any offset within any bytes.
+// Proved: the answer of each function is what the definition's matchers give, and the choice that is kept of it, at any offset
+// within any bytes.
 // Assumed: nothing but what each function's `requires` says: a class file that `class_check` accepts, and a byte at the offset.
 use attempts::found;
 use attempts::try_place;

@@ -2,7 +2,8 @@
 //
 // Proved: each search answers what trying every word of the definition's table in turn gives, and each kind is the
 // definition's. That the constants below are the definition's words is computed from its table.
-// Assumed: the table of operator characters where it is lent, and what each function's `requires` says.
+// Assumed: nothing but what each function's `requires` says: the table of operator characters where it is lent, and a number
+// of the table's words where one is asked about.
 use best_choice::nothing;
 use definition::Choice;
 use definition::Match;
