@@ -3,13 +3,11 @@
 use native.Mathlib.Omega.{arith}
 use Prim.Native.Nat.{_-_, _<_}
 use mathlib.Core.Path.{refl, sym, _∙_}
-use Rattle.definition.specs.Basics.{same}
 use Rattle.definition.specs.Utf8.{encode, encode-all}
 use Rattle.definition.specs.Tables.{cps, keywords, constructors, uoperators}
 use Rattle.spellings.specs.Words.{words}
 use Rattle.lookups.specs.Places.{key, hop}
 use Rattle.lookups.proofs.Chains.{up-to-at, Seeking, nexts, next-at, next-later, seeking-starts, seeking-found, seeking-goes-on, seeking-ends}
-use borrow.Author.Needs.{needs}
 use Rattle.lookups.proofs.follow.Statement.{statement}
 use Rattle.lookups.proofs.follow.Tie as tie
 
