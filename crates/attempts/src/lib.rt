@@ -1,12 +1,14 @@
-// A place that is tried at an offset after others: the source's `try_`.
+// A place that is tried at an offset after others, the source's `try_`, and a word of a table that is tried likewise.
 //
-// Proved: both functions are the definition's, `found`, and `keep` of what is found.
+// Proved: each function is the definition's, `found`, and `keep` of what is found.
 // Assumed: nothing.
+use best_choice::keep;
+use best_choice::nothing;
 use definition::Choice;
 use definition::Match;
-use words::keep;
-use words::nothing;
+use peeks::match_lit;
 ghost use mathlib.Core.Path.{_≡_};
+ghost use Rattle.definition.specs.Matchers.{match-lit};
 ghost use Rattle.definition.specs.Select.{keep, found};
 
 // What a matcher's end is at a place.
@@ -28,4 +30,28 @@ pub fn try_place(best: Choice, i: usize, place: u32, m: Match) -> Choice
     ensures { λ r. ⌜ r ≡ keep best (found i place 0 m) ⌝ }
 {
     keep(best, found(i, place, m))
+}
+
+// A word of a place, with its number in its table, tried after others.
+pub fn try_word(
+    best: Choice,
+    text: &[u8],
+    i: usize,
+    place: u32,
+    word: &[u8],
+    number: usize,
+) -> Choice
+    ensures { λ r. ⌜ r ≡ keep best (found i place number (match-lit (now (text .entry)) (now (word .entry)) i)) ⌝ }
+{
+    let Match::To(end) = match_lit(text, word, i) else {
+        return keep(best, nothing(i));
+    };
+    keep(
+        best,
+        Choice {
+            place: place,
+            end: end,
+            word: number,
+        },
+    )
 }

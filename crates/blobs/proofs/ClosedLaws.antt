@@ -7,7 +7,6 @@ use lib.ListN.{length, length-append}
 use lib.Seq.{length-slice}
 use Rattle.definition.specs.Basics.{Bytes}
 use Rattle.definition.specs.Text.{lexeme}
-use Rattle.definition.specs.Position.{one-each}
 use Rattle.definition.specs.State.{advance}
 use Rattle.definition.specs.declared.Pos.{Pos}
 use Rattle.definition.specs.declared.State.{State}
@@ -18,7 +17,6 @@ use Rattle.positions.specs.Columns.{located}
 use Rattle.positions.specs.declared.Located.{Located}
 use Rattle.soundness.proofs.Moving.{stands-within}
 use Rattle.described.specs.declared.Payload.the-variants.{Blob as Blob-of}
-use Rattle.described.specs.declared.Read.{Read}
 use Rattle.described.specs.declared.Place.{Place}
 use Rattle.described.specs.Described.{Describes, Reads}
 use Rattle.described.proofs.Standing.{known-asked, known-kept, position-kept}

@@ -10,13 +10,11 @@ use Rattle.definition.specs.Basics.{Bytes, Turn}
 use Rattle.definition.specs.Tables.{cps}
 use Rattle.definition.specs.Chars.{is-newline-char}
 use Rattle.definition.specs.Matchers.{match-lit, match-newline}
-use Rattle.definition.specs.State.{advance, new-line}
+use Rattle.definition.specs.State.{advance}
 use Rattle.definition.specs.Item.{Step}
 use Rattle.definition.specs.Comment.{run-end}
 use Rattle.definition.specs.Blob as source
 use Rattle.definition.specs.declared.State.{State}
-use Rattle.definition.specs.declared.Match.{Match}
-use Rattle.definition.specs.declared.Match.the-variants.{To, Nothing}
 use Rattle.lemmas.proofs.Cases.{by-found, by-outcome}
 use Rattle.lemmas.proofs.Loops.{says, Leads, Any, leads-map, leads-both}
 use Rattle.state.specs.Sound.{Stands}

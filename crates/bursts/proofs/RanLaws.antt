@@ -20,7 +20,7 @@ use Rattle.described.proofs.Short.{short-long}
 use Rattle.rulings.specs.Rulings.{Fits, ruling-step}
 use Rattle.rulings.specs.declared.Ruling.{Ruling}
 use Rattle.rulings.specs.declared.Ruling.the-variants.{Token, Error, LineComment}
-use Rattle.finishes.proofs.Spanning.{span-reads}
+use Rattle.rulings.proofs.Building.{span-reads}
 use Rattle.run_turns.specs.declared.Went.the-variants.{Wrote}
 use Rattle.run_turns.specs.Running.{writing, Ran}
 use Rattle.run_turns.proofs.TurnLaws.{wrote-ran}

@@ -1,7 +1,7 @@
 -- What `clean-number` takes away, from the left and from the right. Rests on nothing but the definition.
-use Prim.Native.Nat.{ℕ, zero, suc, _+_, _-_, _≤_, _<_}
+use Prim.Native.Nat.{ℕ, suc, _+_, _-_, _≤_, _<_}
 use mathlib.Core.Path.{_≡_, refl, sym, ap, _∙_}
-use mathlib.Core.Bool.{Bool, true, false}
+use mathlib.Core.Bool.{true, false}
 use mathlib.Core.List.{List, [], _∷_, _++_}
 use mathlib.Core.Logic.{⊎-elim, inl, inr}
 use native.Mathlib.Numerals.{add-one}
@@ -9,12 +9,11 @@ use native.Mathlib.Omega.{arith}
 use types.Run.{OneOf}
 use lib.ListN.{length, getD, take, drop, drop-of-length-le}
 use lib.Seq.{slice, slice-empty, drop-cons, drop-append-le, take-suc, take-length, length-take-le}
-use Rattle.definition.specs.Basics.{Bytes, codes, mem-cp, if_then_else_}
+use Rattle.definition.specs.Basics.{Bytes, codes, mem-cp}
 use Rattle.definition.specs.Numbers.{strips, strip-left, behind, strip-right, clean-number}
 use Rattle.lemmas.proofs.Cases.{by-order}
 use Rattle.lemmas.proofs.Members.{mem-yes, mem-no}
 use Rattle.cleaning.specs.Contracts.{LeftStripped, RightStripped, Cleaned}
-use Rattle.cleaning.specs.declared.Part.{Part}
 
 -- ---- the letters
 

@@ -1,14 +1,12 @@
 -- The digits of `show`, one by one from the last, and the loops that count and write them. Rests on the laws of loops (crate `lemmas`).
 use Prim.Native.Nat.{ℕ, zero, suc, _+_, _-_, _/_, _%_, _≤_, _<_}
-use mathlib.Core.Path.{_≡_, refl, sym, ap, _∙_}
-use mathlib.Core.Bool.{Bool, true, false}
-use mathlib.Core.List.{List, [], _∷_, _++_, append-assoc, append-nil}
+use mathlib.Core.Path.{_≡_, sym, ap, _∙_}
+use mathlib.Core.List.{[], _∷_, _++_, append-assoc, append-nil}
 use native.Mathlib.Omega.{arith}
-use lib.Dec.{ltb}
 use lib.ListN.{length, take, drop, set, length-append, length-drop, take-append-drop}
 use lib.Seq.{length-take-le}
 use borrow.Author.Tests.{lt-ltb, le-ltb}
-use Rattle.definition.specs.Basics.{Bytes, Turn, again, done, loop}
+use Rattle.definition.specs.Basics.{Bytes, again, done, loop}
 use Rattle.definition.specs.Numbers.{show-turn, show}
 use Rattle.lemmas.specs.Over.{over}
 use Rattle.lemmas.proofs.Cases.{by-order, by-lt}

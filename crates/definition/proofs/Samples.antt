@@ -2,13 +2,13 @@
 use Prim.Native.Nat.{ℕ}
 use Prim.Native.String.{String}
 use mathlib.Core.Path.{_≡_, refl, ap}
-use mathlib.Core.Bool.{Bool, true, false, _&&_, _||_, false≢true}
-use mathlib.Core.List.{List, [], _∷_, _++_}
+use mathlib.Core.Bool.{Bool, true, false, _||_, false≢true}
+use mathlib.Core.List.{List, [], _∷_}
 use mathlib.Core.Logic.{_⊎_, inl, inr, ⊎-elim}
 use Rattle.definition.specs.Basics.{Bytes, codes, mem-cp}
 use Rattle.definition.specs.Chars.{is-digit, is-hex, is-lower, is-ident-start, is-constructor-start, is-ident-char, is-anywhite, is-newline-char, is-op-char, is-symbolchar, in-table, ascii-table, count-up}
 use Rattle.definition.specs.Tables.{early-literals, kw-op-rules, op-tokens, mixfix-rules}
-use Rattle.definition.specs.Regex.{Re, eps, chr, seq, alt, many, never, Many, none, more, In}
+use Rattle.definition.specs.Regex.{Re, eps, chr, seq, alt, many, never, none, more, In}
 use Rattle.definition.specs.Patterns.{patterns, pattern}
 use Rattle.definition.specs.Samples.{nullable, if-so, after-char, accepts, samples, Sampled, all-accepted}
 use Rattle.definition.proofs.Computed.{both}

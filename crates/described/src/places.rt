@@ -3,7 +3,7 @@ use crate::Place;
 use positions::Cache;
 ghost use mathlib.Core.Path.{_≡_};
 ghost use Prim.Native.Nat.{_<_};
-ghost use Rattle.definition.specs.State.{advance, new-line};
+ghost use Rattle.definition.specs.State.{advance};
 ghost use Rattle.described.specs.Places.{moved, next-line};
 
 // The text was read up to byte e, on the same line.

@@ -2,9 +2,7 @@
 use Prim.Native.Nat.{ℕ, _+_, _/_, _%_, _≤_, _<_}
 use mathlib.Core.Path.{_≡_, ap}
 use mathlib.Core.List.{List, [], _∷_}
-use borrow.Author.Tests.{lt-ltb, le-ltb}
 use native.Mathlib.Omega.{arith}
-use Rattle.definition.specs.Basics.{if_then_else_}
 use Rattle.definition.specs.Utf8.{encode}
 use lib.ListN.{length}
 use Rattle.lemmas.proofs.Cases.{tests}

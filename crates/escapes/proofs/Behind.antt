@@ -1,22 +1,19 @@
 -- What `unescape` is, an equation for each way that the code takes. Rests on the laws of reading (crate `text`).
 use Prim.Native.Nat.{ℕ, _+_, _≤_, _<_}
-use mathlib.Core.Path.{_≡_, refl, sym, ap, _∙_}
-use mathlib.Core.Bool.{Bool, true, false}
+use mathlib.Core.Path.{_≡_, sym, ap, _∙_}
+use mathlib.Core.Bool.{true, false}
 use mathlib.Core.List.{List, [], _∷_}
 use native.Mathlib.Omega.{arith}
-use types.Run.{OneOf}
 use lib.Dec.{eqb}
 use lib.ListN.{length, getD}
 use borrow.Author.Tests.{lt-ltb, le-ltb, eq-eqb, ne-eqb}
-use Rattle.definition.specs.Basics.{Bytes, codes, if_then_else_}
+use Rattle.definition.specs.Basics.{Bytes, codes}
 use Rattle.definition.specs.Utf8.{sequence-at}
 use Rattle.definition.specs.Text.{with-char, byte, byte-has, byte-is}
-use Rattle.definition.specs.Escapes.{code-at, hex-value, unescape}
+use Rattle.definition.specs.Escapes.{code-at, unescape}
 use Rattle.definition.specs.declared.Sequence.{Sequence}
-use Rattle.definition.specs.declared.Sequence.the-variants.{End}
-use Rattle.definition.specs.declared.Octet.{Octet}
 use Rattle.definition.specs.declared.Octet.the-variants.{Byte, Past}
-use Rattle.lemmas.proofs.Cases.{by-order, tests}
+use Rattle.lemmas.proofs.Cases.{by-order}
 use Rattle.text.proofs.Reading.{byte-within, byte-end, read-end}
 use Rattle.escapes.specs.Contracts.{escaped}
 

@@ -1,6 +1,5 @@
 -- What the functions of escapes ask for, and what a byte behind a backslash denotes.
 use Prim.Native.Nat.{ℕ, _+_, _≤_, _<_}
-use mathlib.Core.Bool.{Bool, true, false}
 use lib.Dec.{eqb}
 use lib.ListN.{length}
 use Rattle.definition.specs.Basics.{Bytes, ch, if_then_else_}

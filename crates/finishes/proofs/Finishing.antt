@@ -1,33 +1,21 @@
--- What is built of a ruling is what it stands for, and a character is the definition's. Rests on the laws of spans.
-use Prim.Native.Nat.{ℕ, _+_}
-use mathlib.Core.Path.{_≡_, refl}
-use mathlib.Core.List.{[]}
+-- What is built of a ruling is what it stands for. Rests on the definitions alone.
+use Prim.Native.Nat.{ℕ}
+use mathlib.Core.Path.{_≡_}
 use lib.Seq.{slice-empty}
 use Rattle.definition.specs.Basics.{Bytes}
 use Rattle.definition.specs.Text.{lexeme}
-use Rattle.definition.specs.Kinds.{kind}
 use Rattle.definition.specs.Position.{pos-of, cur-pos}
-use Rattle.definition.specs.State.{advance}
-use Rattle.definition.specs.Item.{tok, lex-error}
-use Rattle.definition.specs.Escapes.{unescape}
+use Rattle.definition.specs.Item.{lex-error}
 use Rattle.definition.specs.Comment.{line-comment}
-use Rattle.definition.specs.Token.{char-lit}
-use Rattle.definition.specs.declared.State.{State}
-use Rattle.definition.specs.declared.Extra.the-variants.{NoExtra, CharLit}
-use Rattle.positions.specs.Columns.{located}
-use Rattle.positions.specs.declared.Located.{Located}
-use Rattle.described.specs.Described.{bytes-of, Describes, Known-at, Reads}
+use Rattle.definition.specs.declared.Extra.the-variants.{NoExtra}
+use Rattle.described.specs.Described.{bytes-of, Describes, Reads}
 use Rattle.described.specs.declared.Place.{Place}
 use Rattle.described.specs.declared.Payload.{Payload}
-use Rattle.described.specs.declared.Payload.the-variants.{Part}
 use Rattle.described.specs.declared.Read.{Read}
 use Rattle.line_comments.specs.Contracts.{ReadsAny}
 use Rattle.rulings.specs.Rulings.{spanned, Chose, ruling-step, Fits}
 use Rattle.rulings.specs.declared.Ruling.{Ruling}
 use Rattle.rulings.specs.declared.Ruling.the-variants.{Token, Error, LineComment}
-use Rattle.rulings.proofs.Spanning.{nothing-describes, nothing-sized, spans}
-use Rattle.finishes.specs.Does.{Does}
-use Rattle.finishes.proofs.Spanning.{span-reads}
 
 -- the ruling x on a choice that ends at e is carried out
 abbrev Carried : Bytes → Bytes → Place → ℕ → Ruling → Read → Type 0
@@ -48,11 +36,3 @@ module _ {s name : Bytes} {at : Place} {e : ℕ} {r : Read} (h : Chose s at e) (
 
   pub line-finished : x ≡ LineComment → ReadsAny s (line-comment s (lexeme s (at .st .offset) (at .st .offset)) (at .st)) r → Carried s name at e x r
   line-finished q c f = rw (q, ← slice-empty (at .st .offset) s) (c name f)
-
--- a character has no payload
-pub char-does : {s name : Bytes} {at : Place} {e : ℕ} {start end : Located} {next : State} {c : ℕ} {r : Read} → Chose s at e
-    → start ≡ located s (at .st) (at .st .offset) → end ≡ located s (at .st) e → next ≡ advance (at .st) e → c ≡ unescape s (at .st .offset + 1)
-    → ((t f bytes : Bytes) → Describes t name f (Part 0 0) bytes → Known-at t next (end .known) → Reads t name f (tok (kind "CHAR") bytes (start .pos) (end .pos) (CharLit c) next) r)
-    → Does s name (char-lit s (at .st) e) r
-char-does {s} {name} {at} {e} {start} {end} {next} h a b d q build f =
-    rw (← q) (span-reads (spans h nothing-sized) start end next a b d (build s f [] (nothing-describes s name f)))

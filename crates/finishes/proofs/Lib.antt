@@ -1,2 +1,1 @@
-pub mod Spanning
 pub mod Finishing

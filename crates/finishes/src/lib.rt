@@ -1,8 +1,9 @@
-// What is read of a choice that is read whole: a ruling is carried out, and a character is made.
+// What is read of a choice that is read whole: a ruling is carried out.
 //
 // Proved: each function reads what the definition gives (crates/definition/specs/Token.antt): item, payload and state. Most
 // tokens are written straight from their rulings (crate `puts`); what is left of them, with errors and line comments, one
-// `finish` carries out. Characters, which alone have a code point besides, are made by themselves.
+// `finish` carries out. Characters, which alone have a code point besides, are made by themselves (crate
+// `character_literals`).
 // Assumed: nothing but what each function's `requires` says: a reader stands in a sound state of a legal text, the choice
 // ends behind it (`Chose`), and the ruling fits the text (`Fits`).
 use definition::Extra;
@@ -11,20 +12,15 @@ use described::Place;
 use described::Read;
 use described::tokens::lex_error;
 use described::tokens::token;
-use escapes::unescape;
 use line_comments::line_comment;
 use positions::pos_of;
 use rulings::Ruling;
 ghost use Rattle.definition.specs.Basics.{Bytes};
 ghost use Rattle.definition.specs.Position.{pos-of, cur-pos};
 ghost use Rattle.definition.specs.Item.{lex-error};
-ghost use Rattle.definition.specs.Token.{char-lit};
 ghost use Rattle.definition.specs.declared.Extra.the-variants.{NoExtra};
 ghost use Rattle.described.specs.Described.{Describes, Sized, Reads};
 ghost use Rattle.rulings.specs.Rulings.{spanned, Chose, Spans, ruling-step, Fits};
-ghost use Rattle.finishes.specs.Does.{Does};
-
-const CHAR: u32 = 167;
 
 // A token from byte i up to byte e, with the state behind it.
 fn finish_from(
@@ -93,28 +89,4 @@ pub fn finish(text: &[u8], name: &[u8], at: Place, e: usize, ruling: Ruling) -> 
         Ruling::Error { number, payload } => error_over(text, name, at, e, number, payload),
         Ruling::LineComment => line_comment(text, st.offset as usize, at),
     }
-}
-
-// A character, with its code point.
-pub fn char_lit(text: &[u8], name: &[u8], at: Place, e: usize) -> Read
-    requires { ⌜ Chose (now text) at e ⌝ }
-    ensures { λ r. ⌜ Does (now (text .entry)) (now (name .entry)) (char-lit (now (text .entry)) (at .st) e) r ⌝ }
-{
-    let st = at.st;
-    let known = at.known;
-    let start = pos_of(text, st, known, st.offset);
-    let end = pos_of(text, st, start.known, e as u32);
-    let behind = st.advance(e as u32);
-    let nothing = Payload::Part { from: 0, to: 0 };
-    let c = unescape(text, st.offset as usize + 1);
-    token(
-        name,
-        CHAR,
-        nothing,
-        start.pos,
-        end.pos,
-        Extra::CharLit(c),
-        behind,
-        end.known,
-    )
 }

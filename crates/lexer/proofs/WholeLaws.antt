@@ -1,13 +1,12 @@
 -- The whole run: refused, or its items. Rests on what a run that isn't refused was given, and on demand 3's law for it.
 use Prim.Native.Nat.{ℕ}
-use mathlib.Core.Path.{_≡_, refl, sym, ap, _∙_}
+use mathlib.Core.Path.{_≡_, sym, ap, _∙_}
 use mathlib.Core.List.{List}
 use borrow.Author.Tests.{eq-eqb, ne-eqb}
 use Rattle.definition.specs.Basics.{Bytes}
 use Rattle.definition.specs.Run.{Outcome, refusal, refused, run-items, run}
 use Rattle.definition.specs.Reading.{EveryReading}
 use Rattle.definition.specs.declared.State.{State}
-use Rattle.definition.specs.declared.RunAnswer.{RunAnswer}
 use Rattle.soundness.proofs.Refusals.{Accepted, run-accepted}
 use Rattle.soundness.proofs.Demand3.{every-reading}
 

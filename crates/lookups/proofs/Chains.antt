@@ -14,7 +14,6 @@ use Rattle.definition.specs.Tables.{keywords, constructors, uoperators}
 use Rattle.lemmas.proofs.Cases.{by-bool, by-outcome, both}
 use Rattle.spellings.specs.Words.{words}
 use Rattle.same_bytes.proofs.WordLaws.{same-equal}
-use Rattle.lookups.specs.declared.Word.{Word}
 use Rattle.lookups.specs.declared.Word.the-variants.{At, Nowhere}
 use Rattle.lookups.specs.Places.{place, key, hop, seek, Chain}
 

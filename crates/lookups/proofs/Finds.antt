@@ -1,11 +1,9 @@
 -- A place in a table is where the definition's `find` finds the lexeme. Rests on nothing but the definition.
-use Prim.Native.Nat.{ℕ, zero, suc, _-_, _≤_}
-use mathlib.Core.Path.{_≡_, refl, ap, _∙_}
-use mathlib.Core.Bool.{Bool, true, false}
+use Prim.Native.Nat.{ℕ, suc, _-_, _≤_}
+use mathlib.Core.Path.{_≡_, refl, _∙_}
 use mathlib.Core.List.{List, [], _∷_}
 use mathlib.Core.Option.{Option, none, some}
 use native.Mathlib.Omega.{arith}
-use lib.ListN.{getD}
 use Rattle.definition.specs.Basics.{Bytes, same}
 use Rattle.definition.specs.Tables.{Entry, cps, find}
 use Rattle.definition.specs.Token.{entry}

@@ -1,4 +1,3 @@
-pub mod Prefix
 pub mod Chains
 pub mod Finds
 pub mod Lengths

@@ -1,8 +1,11 @@
 // The built-in lowercase letters: a constant table of the source's ranges, searched by halves. Proved: the table is the
 // one that the source's text spells, and a code point is found exactly where one of its ranges holds it.
 // Assumed: nothing.
+mod blocks; // blocks.rt: the letters of some blocks of code points
 mod ll_table; // ll_table.rt: the ranges
 
+use crate::blocks::Block;
+use crate::blocks::block_letters;
 use crate::ll_table::LL;
 use members::Found;
 ghost use mathlib.Core.Path.{_≡_};
@@ -40,8 +43,12 @@ pub fn find_ll(c: u32) -> Found
     Found::Nothing
 }
 
+// Whether c is a letter: where its block tells, the table is not searched.
 pub fn is_ll(c: u32) -> bool
     ensures { λ r. ⌜ r ≡ is-ll c ⌝ }
 {
-    find_ll(c).is_some()
+    let Block::Letters(letters) = block_letters(c / 64) else {
+        return find_ll(c).is_some();
+    };
+    (letters >> (c % 64)) % 2 == 1
 }

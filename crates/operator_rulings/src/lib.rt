@@ -6,11 +6,11 @@
 // choice ends behind it (`Chose`).
 use described::Payload;
 use described::Place;
+use keyword_operators::kw_op_kind;
+use keyword_operators::kw_op_length;
+use keyword_operators::kw_op_plain_kind;
 use peeks::no_comment;
 use rulings::Ruling;
-use words::kw_op_kind;
-use words::kw_op_length;
-use words::kw_op_plain_kind;
 ghost use Prim.Native.Nat.{_<_};
 ghost use Rattle.definition.specs.Basics.{Bytes};
 ghost use Rattle.definition.specs.Tables.{kw-op-rules};

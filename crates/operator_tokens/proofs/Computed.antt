@@ -1,18 +1,16 @@
--- What is computed over the definition's tables: which bytes operator tokens and mixfix words begin with.
+-- What is computed over the definition's table: which bytes operator tokens begin with.
 use Prim.Native.Nat.{ℕ, _<_}
 use mathlib.Core.Path.{_≡_, refl}
 use mathlib.Core.Bool.{false}
 use mathlib.Core.List.{List, [], _∷_, map}
-use Rattle.definition.specs.Basics.{ch, codes, mem-cp, if_then_else_}
+use Rattle.definition.specs.Basics.{codes, mem-cp, if_then_else_}
 use Rattle.definition.specs.Utf8.{encode, encode-all}
 use Rattle.definition.specs.Chars.{count-up}
-use Rattle.definition.specs.Tables.{cps, op-tokens, mixfix-rules}
+use Rattle.definition.specs.Tables.{cps, op-tokens}
 use Rattle.lemmas.proofs.Members.{keys-of}
 use Rattle.words.specs.Rows.{Row, numbered, only-rows, tokens-at}
-use Rattle.words.proofs.RowLaws.{is-empty, starts-other}
+use Rattle.words.proofs.RowLaws.{is-empty}
 use Rattle.words.proofs.TableLaws.{same-each}
-
--- ---- the operator tokens by first byte
 
 -- None of them is empty.
 pub tokens-full : only-rows (λ (r : Row). is-empty (r .1)) (numbered 0 op-tokens) ≡ []
@@ -33,10 +31,3 @@ pub tokens-none : (b : ℕ) → b < 256 → mem-cp b (keys-of first-bytes) ≡ f
 tokens-none b h n =
     let all = same-each (λ b. if mem-cp b (keys-of first-bytes) then [] else tokens-at b) (λ b. []) 256 [] all-others b h in
     rw n at all
-
--- ---- the mixfix words
-
--- They all begin with a point.
-pub mixfix-points : only-rows (λ (r : Row). starts-other (ch ".") (r .1)) (numbered 0 mixfix-rules) ≡ []
-unfolding mixfix-rules cps encode-all encode
-mixfix-points = refl

@@ -1,25 +1,21 @@
--- What the searches find is what trying every word of the definition's table gives: the operator tokens that begin with the text's byte, and
--- the mixfix words where a point stands. Rests on the laws of rows (crate `words`) and on what is computed.
+-- What the search finds is what trying every word of the definition's table gives: the operator tokens that begin with the text's byte. Rests
+-- on the laws of rows (crate `words`) and on what is computed.
 use Prim.Native.Nat.{ℕ, _≤_, _<_}
 use mathlib.Core.Path.{_≡_, refl, sym, ap, _∙_}
-use mathlib.Core.Bool.{false}
 use mathlib.Core.List.{List}
 use native.Mathlib.Omega.{arith}
 use lib.ListN.{length, getD}
-use Rattle.definition.specs.Basics.{Bytes, ch, mem-cp}
-use Rattle.definition.specs.Text.{byte-is}
-use Rattle.definition.specs.Tables.{op-tokens, mixfix-rules}
+use Rattle.definition.specs.Basics.{Bytes, mem-cp}
+use Rattle.definition.specs.Tables.{op-tokens}
 use Rattle.definition.specs.Matchers.{match-lit}
 use Rattle.definition.specs.Select.{none-at, try-words}
 use Rattle.definition.specs.declared.Match.{Match}
 use Rattle.lemmas.proofs.Members.{Rest, no-key}
 use Rattle.words.specs.Rows.{Row, numbered, try-rows, starts-with, tokens-at}
-use Rattle.words.proofs.RowLaws.{words-rows, rows-left, is-empty, starts-other, other-start, missing-start, past-end}
-use Rattle.operator_tokens.proofs.Computed.{tokens-full, first-bytes, tokens-none, mixfix-points}
+use Rattle.words.proofs.RowLaws.{words-rows, rows-left, is-empty, other-start, past-end}
+use Rattle.operator_tokens.proofs.Computed.{tokens-full, first-bytes, tokens-none}
 
 module _ (s : Bytes) (i : ℕ) where
-  -- ---- operator tokens
-
   -- a word of a table
   abbrev lit : Bytes → Match
   lit w = match-lit s w i
@@ -46,17 +42,3 @@ module _ (s : Bytes) (i : ℕ) where
     token-none small n =
         sym (ap (λ (rs : List Row). try-rows i 36 lit rs (none-at i)) (tokens-none (getD s i 0) small (no-key first-bytes (getD s i 0) refl n)))
         ∙ token-is refl
-
-  -- ---- mixfix words
-
-  -- At a point all are tried.
-  pub mixfix-is : try-rows i 50 lit (numbered 0 mixfix-rules) (none-at i) ≡ try-words i 50 lit 0 mixfix-rules (none-at i)
-  mixfix-is = sym (words-rows i 50 lit 0 mixfix-rules (none-at i))
-
-  -- Elsewhere there is none.
-  pub mixfix-no : byte-is (ch ".") s i ≡ false → try-words i 50 lit 0 mixfix-rules (none-at i) ≡ none-at i
-  unfolding try-rows
-  mixfix-no e =
-      words-rows i 50 lit 0 mixfix-rules (none-at i)
-      ∙ rows-left i 50 lit (λ r. starts-other (ch ".") (r .1)) (λ r t. missing-start s i (ch ".") e (r .1) t) (numbered 0 mixfix-rules) (none-at i) (omega arith)
-      ∙ ap (λ (rs : List Row). try-rows i 50 lit rs (none-at i)) mixfix-points

@@ -1,33 +1,45 @@
-// The operator tokens and the mixfix words, searched at an offset: two of the definition's tables of words that `select` tries.
+// The operator tokens, searched at an offset: one of the definition's tables of words that `select` tries. Where several begin
+// with a byte, the crate `tokens_at` tries them.
 //
-// Proved: each search answers what trying every word of the definition's table in turn gives. That the words in the code are the
-// definition's is computed from its tables, as is which bytes an operator token begins with (proofs/Computed.antt).
+// Proved: the search answers what trying every word of the definition's table in turn gives. That the words in the code are the
+// definition's is computed from its table, as is which bytes an operator token begins with (proofs/Computed.antt).
 // Assumed: nothing.
-pub mod spelled; // spelled.rt: the tokens by their first bytes, and the mixfix words
-
-use crate::spelled::at_bar;
-use crate::spelled::at_brace;
-use crate::spelled::at_bracket;
-use crate::spelled::at_colon;
-use crate::spelled::at_dollar;
-use crate::spelled::at_equals;
-use crate::spelled::at_less;
-use crate::spelled::at_minus;
-use crate::spelled::at_paren;
-use crate::spelled::at_point;
-use crate::spelled::at_question;
-use crate::spelled::at_returns;
-use crate::spelled::at_tilde;
-use crate::spelled::mixfix;
-use crate::spelled::only_byte;
-use crate::spelled::only_pair;
+use attempts::try_word;
+use best_choice::nothing;
 use definition::Choice;
-use peeks::byte_is;
-use words::nothing;
+use tokens_at::at_bar;
+use tokens_at::at_brace;
+use tokens_at::at_bracket;
+use tokens_at::at_colon;
+use tokens_at::at_dollar;
+use tokens_at::at_equals;
+use tokens_at::at_less;
+use tokens_at::at_minus;
+use tokens_at::at_paren;
+use tokens_at::at_point;
+use tokens_at::at_question;
+use tokens_at::at_returns;
+use tokens_at::at_tilde;
 ghost use mathlib.Core.Path.{_≡_};
-ghost use Rattle.definition.specs.Tables.{op-tokens, mixfix-rules};
+ghost use mathlib.Core.List.{[], _∷_};
+ghost use Rattle.definition.specs.Tables.{op-tokens};
 ghost use Rattle.definition.specs.Matchers.{match-lit};
 ghost use Rattle.definition.specs.Select.{none-at, try-words};
+ghost use Rattle.words.specs.Rows.{try-rows};
+
+// An operator token of one byte, by itself. The byte is a parameter: a `match` whose arms have byte strings takes the checker long.
+fn only_byte(text: &[u8], i: usize, a: u8, number: usize) -> Choice
+    ensures { λ r. ⌜ r ≡ try-rows i 36 (λ w. match-lit (now (text .entry)) w i) ((number, a ∷ []) ∷ []) (none-at i) ⌝ }
+{
+    try_word(nothing(i), text, i, 36, &[a], number)
+}
+
+// An operator token of two bytes, by itself.
+fn only_pair(text: &[u8], i: usize, a: u8, b: u8, number: usize) -> Choice
+    ensures { λ r. ⌜ r ≡ try-rows i 36 (λ w. match-lit (now (text .entry)) w i) ((number, a ∷ b ∷ []) ∷ []) (none-at i) ⌝ }
+{
+    try_word(nothing(i), text, i, 36, &[a, b], number)
+}
 
 // The longest of the operator tokens at i: only those that begin with the byte there are tried.
 pub fn op_token(text: &[u8], i: usize) -> Choice
@@ -65,14 +77,4 @@ pub fn op_token(text: &[u8], i: usize) -> Choice
         b'~' => at_tilde(text, i),
         _ => nothing(i),
     }
-}
-
-// The longest of the mixfix words at i.
-pub fn mixfix_word(text: &[u8], i: usize) -> Choice
-    ensures { λ r. ⌜ r ≡ try-words i 50 (λ w. match-lit (now (text .entry)) w i) 0 mixfix-rules (none-at i) ⌝ }
-{
-    if byte_is(text, i, b'.') {
-        return mixfix(text, i);
-    }
-    nothing(i)
 }

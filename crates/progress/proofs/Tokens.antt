@@ -1,6 +1,6 @@
 -- `next-token` moves on and has fuel enough: what each place does with its choice reads something, gives an item behind
 -- something read, or ends the reading. Rests on the laws of choices and of readings.
-use Prim.Native.Nat.{ℕ, _+_, _-_, _<_}
+use Prim.Native.Nat.{ℕ, _+_, _<_}
 use Prim.Native.String.{String}
 use mathlib.Core.Path.{_≡_, refl, subst}
 use mathlib.Core.Bool.{true, not, false≢true}

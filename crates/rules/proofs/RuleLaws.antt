@@ -10,6 +10,7 @@ use lib.ListN.{getD, List·getD-map}
 use borrow.Author.Tests.{eqb-true, eqb-false, eq-eqb, ne-eqb, ltb-true}
 use Rattle.definition.specs.Basics.{Bytes, done, mem-cp}
 use Rattle.definition.specs.Chars.{count-up}
+use Rattle.definition.specs.Select.{select}
 use Rattle.definition.specs.State.{advance, new-line}
 use Rattle.definition.specs.Token.{Token-turn, Rule, rules, any, act}
 use Rattle.definition.specs.declared.Choice.{Choice}
@@ -18,6 +19,7 @@ use Rattle.lemmas.proofs.Cases.{by-test, both, either}
 use Rattle.progress.proofs.Choices.{Fits, select-fits}
 use Rattle.described.specs.Described.{Known-at, Turns}
 use Rattle.described.specs.Places.{moved, next-line}
+use Rattle.described.specs.Standing.{Standing}
 use Rattle.described.specs.declared.Place.{Place}
 use Rattle.described.specs.declared.Turned.{Turned}
 use Rattle.described.proofs.Standing.{known-kept, known-line}
@@ -124,21 +126,27 @@ pub ruled-by : {s name : Bytes} {at : Place} {c : Choice} {r : Ruling} (f : Byte
     → Rules s name at (c .end) (does s name f n (at .st) (c .place) (c .end) (c .word)) r
 ruled-by {s} {name} {at} {c} f h q d = rules-same (ap (λ (m : ℕ). does s name f m (at .st) (c .place) (c .end) (c .word)) q) d
 
-module _ {s name f : Bytes} {at : Place} {c : Choice} (h : Acts s name f at c) where
-  -- the choice is one of the places, with a word of its table
-  pub tabled : Tabled c
-  tabled = subst Tabled (sym (h .chosen)) (select-tabled (at .st .offset) s f)
+-- a choice is one of the places, with a word of its table
+pub chosen-tabled : (s f : Bytes) (i : ℕ) {c : Choice} → c ≡ select s f i → Tabled c
+chosen-tabled s f i q = subst Tabled (sym q) (select-tabled i s f)
 
-  fits : Fits s (at .st .offset) c
-  fits = subst (Fits s (at .st .offset)) (sym (h .chosen)) (select-fits s (at .st .offset) f)
+-- where some place was chosen the choice ends behind where the reader stands
+pub some-chosen : {s : Bytes} (f : Bytes) {at : Place} {c : Choice} → Standing s (at .st) (at .known) → at .st .mode ≡ 0 → c ≡ select s f (at .st .offset)
+    → (rule-of (c .place) ≡ 0 → ⊥) → Chose s at (c .end)
+unfolding rule-numbers
+some-chosen {s} f {at} {c} standing between q n =
+    let fits = subst (Fits s (at .st .offset)) (sym q) (select-fits s (at .st .offset) f) in
+    let some : eqb (c .place) 0 ≡ false = ne-eqb (c .place) 0 (λ o. n (subst (λ (k : ℕ). rule-of k ≡ 0) (sym o) refl)) in
+    record { standing = standing; between = between; onward = fits .chosen some .onward }
+
+module _ {s name f : Bytes} {at : Place} {c : Choice} (h : Acts s name f at c) where
+  pub tabled : Tabled c
+  tabled = chosen-tabled s f (at .st .offset) (h .chosen)
 
   module _ {n r : ℕ} (q : n ≡ rule-of (c .place)) (p : n ≡ r) where
     -- unless it is none it ends behind where the reader stands
     pub chose : eqb r 0 ≡ false → Chose s at (c .end)
-    unfolding rule-numbers
-    chose z =
-        let some : eqb (c .place) 0 ≡ false = ne-eqb (c .place) 0 (λ o. eqb-false r 0 z (sym p ∙ q ∙ ap rule-of o)) in
-        record { standing = h .standing; between = h .between; onward = fits .chosen some .onward }
+    chose z = some-chosen f (h .standing) (h .between) (h .chosen) (λ o. eqb-false r 0 z (sym p ∙ q ∙ o))
 
     -- what its rule does is done
     pub by-rule : (t : Turned) → Turns s name f (does s name f r (at .st) (c .place) (c .end) (c .word)) t → Turns s name f (act s name f (at .st) c) t

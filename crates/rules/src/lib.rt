@@ -9,11 +9,11 @@
 // Assumed: nothing but what each function's `requires` says: a reader stands in a sound state of a legal text, between
 // comments, the choice is `select`'s, and its rule is neither that of white space nor that of a line end. Those two read
 // nothing; who asks for a choice passes them (crate `sights`).
+use character_literals::char_lit;
 use definition::Choice;
 use described::Place;
 use described::Read;
 use described::tokens::error_here;
-use finishes::char_lit;
 use number_rulings::bad_number;
 use number_rulings::number;
 use number_rulings::uint8;

@@ -1,3 +1,4 @@
 pub mod Parts
 pub mod Spanning
+pub mod Building
 pub mod RulingLaws

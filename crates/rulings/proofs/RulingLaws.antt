@@ -9,7 +9,7 @@ use Rattle.definition.specs.Item.{lex-error}
 use Rattle.definition.specs.Comment.{line-comment}
 use Rattle.definition.specs.Token.{Token-turn}
 use Rattle.definition.specs.declared.Extra.the-variants.{NoExtra}
-use Rattle.described.specs.Described.{bytes-of, Sized, Describes}
+use Rattle.described.specs.Described.{Sized, Describes}
 use Rattle.described.specs.declared.Place.{Place}
 use Rattle.described.specs.declared.Payload.{Payload}
 use Rattle.rulings.specs.declared.Ruling.{Ruling}

@@ -5,7 +5,8 @@
 //
 // There is no code here. What a ruling stands for, and what carrying it out asks for, is said in specs/Rulings.antt. Proved
 // (in proofs/): which rulings stand for a rule's token, error or line comment (RulingLaws), what a token up to a choice's end
-// asks for (Spanning), and that a part of a slice is a lexeme (Parts). Assumed: nothing.
+// asks for (Spanning), that a token or an error that is built from its positions is the definition's (Building), and that a
+// part of a slice is a lexeme (Parts). Assumed: nothing.
 use described::Payload;
 
 pub enum Ruling {

@@ -6,10 +6,9 @@ use mathlib.Core.List.{List, [], _∷_, _++_, map, append-assoc, append-nil}
 use native.Mathlib.Omega.{arith}
 use native.Mathlib.Nat.{add-zero, zero-add}
 use lib.ListN.{length, take, drop, length-append}
-use lib.Seq.{take-append-seam, drop-append-seam, drop-append-add, drop-drop, take-at, drop-at}
+use lib.Seq.{take-append-seam, drop-append-seam, drop-drop, take-at, drop-at}
 use Rattle.definition.specs.Basics.{Bytes}
 use Rattle.definition.specs.Item.{Step, record-size, extra-words, words}
-use Rattle.definition.specs.Run.{put}
 use Rattle.definition.specs.declared.Item.{Item}
 use Rattle.definition.specs.declared.Extra.{Extra}
 use Rattle.definition.specs.declared.Extra.the-variants.{NoExtra, CharLit, Blob, LexError, Comment}

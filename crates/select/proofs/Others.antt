@@ -3,17 +3,16 @@
 use Prim.Native.Nat.{ℕ, zero, suc, _+_, _≤_, _<_}
 use mathlib.Core.Path.{_≡_, refl, sym, ap, _∙_}
 use mathlib.Core.Bool.{Bool, true, false, not, _&&_, false≢true}
-use mathlib.Core.List.{List, [], _∷_, _++_}
+use mathlib.Core.List.{List, [], _∷_}
 use native.Mathlib.Omega.{arith}
-use types.Run.{OneOf}
 use lib.Dec.{eqb}
-use borrow.Author.Tests.{eqb-true, eqb-false, ne-eqb}
+use borrow.Author.Tests.{eqb-false, ne-eqb}
 use Rattle.definition.specs.Basics.{Bytes, mem-cp}
 use Rattle.definition.specs.Chars.{count-up, is-lower, is-digit, is-ident-start, is-constructor-start, is-op-char, in-table, ascii-table, is-anywhite, is-newline-char, is-uoperator}
 use Rattle.definition.specs.Tables.{early-literals, kw-op-rules, op-tokens, mixfix-rules}
 use Rattle.definition.specs.Select.{none-at, places, try-all, select}
 use Rattle.definition.specs.Patterns.{patterns}
-use Rattle.lemmas.proofs.Cases.{by-test, by-order, both, both-true}
+use Rattle.lemmas.proofs.Cases.{by-test, by-order, both-true}
 use Rattle.lemmas.proofs.Members.{all-in, Rest, keys-of, all-own, no-key, some-keys}
 use Rattle.groups.specs.Groups.{at-letter, at-capital, at-digit}
 use Rattle.select.specs.Standing.{Ascii, Other, decided}

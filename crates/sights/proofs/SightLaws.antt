@@ -2,19 +2,18 @@
 -- progress and of sound states.
 use Prim.Native.Nat.{ℕ, _-_, _≤_, _<_}
 use native.Mathlib.Omega.{arith}
-use mathlib.Core.Path.{_≡_, refl, sym, ap, subst, _∙_}
+use mathlib.Core.Path.{_≡_, refl, sym, ap, _∙_}
 use mathlib.Core.Bool.{false}
 use mathlib.Core.List.{[]}
 use lib.Dec.{eqb}
 use lib.ListN.{length}
-use borrow.Author.Tests.{eqb-false, ne-eqb, lt-leb}
+use borrow.Author.Tests.{eqb-false}
 use Rattle.definition.specs.Basics.{Bytes}
 use Rattle.definition.specs.ClassFile.{class-check}
 use Rattle.definition.specs.Select.{select}
-use Rattle.definition.specs.Token.{Token-turn, act, token-turn, next-token}
+use Rattle.definition.specs.Token.{Token-turn, next-token}
 use Rattle.definition.specs.declared.Choice.{Choice}
 use Rattle.lemmas.proofs.Loops.{says}
-use Rattle.progress.proofs.Choices.{Fits, select-fits}
 use Rattle.progress.proofs.Tokens.{token-unroll}
 use Rattle.described.specs.Described.{Turns}
 use Rattle.described.specs.Places.{moved, next-line}
@@ -22,28 +21,14 @@ use Rattle.described.specs.declared.Place.{Place}
 use Rattle.described.specs.declared.Turned.the-variants.{Again}
 use Rattle.rulings.specs.Rulings.{Chose, Rules, ruling-step}
 use Rattle.rulings.specs.declared.Ruling.{Ruling}
-use Rattle.place_rules.specs.Ruling.{rule-numbers, rule-of, does}
-use Rattle.place_rules.specs.Tabled.{Tabled}
+use Rattle.place_rules.specs.Ruling.{rule-of, does}
 use Rattle.rules.specs.Acting.{Acts, Short}
-use Rattle.rules.proofs.RuleLaws.{by-rule, ruled-acts, moved-turns, line-turns}
-use Rattle.rules.proofs.Tabling.{select-tabled}
+use Rattle.rules.proofs.RuleLaws.{some-chosen, by-rule, ruled-acts, moved-turns, line-turns}
 use Rattle.white_space.specs.White.{Between, Behind}
-use Rattle.white_space.proofs.TurnLaws.{Goes, turn-acts, turn-goes}
+use Rattle.white_space.proofs.TurnLaws.{Goes, turn-is, turn-acts, turn-goes}
 use Rattle.sights.specs.Sights.{Faces, Sees}
 
--- a choice is one of the places, with a word of its table
-pub sight-tabled : (s f : Bytes) (i : ℕ) (c : Choice) → c ≡ select s f i → Tabled c
-sight-tabled s f i c q = subst Tabled (sym q) (select-tabled i s f)
-
--- where some place was chosen the text hasn't ended, and the choice ends behind the reader
-pub some-chosen : {s f : Bytes} {at : Place} {c : Choice} → Between s f at → c ≡ select s f (at .st .offset) → (rule-of (c .place) ≡ 0 → ⊥) → Chose s at (c .end)
-unfolding rule-numbers
-some-chosen {s} {f} {at} {c} h q n =
-    let fits = subst (Fits s (at .st .offset)) (sym q) (select-fits s (at .st .offset) f) in
-    let some : eqb (c .place) 0 ≡ false = ne-eqb (c .place) 0 (λ o. n (subst (λ (k : ℕ). rule-of k ≡ 0) (sym o) refl)) in
-    record { standing = h .standing; between = h .between; onward = fits .chosen some .onward }
-
--- what is asked where such a choice is acted on
+-- what is asked where a choice is acted on
 pub chosen-acts : {s name f : Bytes} {at : Place} {c : Choice} → Between s f at → c ≡ select s f (at .st .offset) → at .st .offset < length s → length name ≤ 4096
     → Acts s name f at c
 chosen-acts h q before named = record {
@@ -72,7 +57,7 @@ module _ {s f : Bytes} {first here : Place} {c : Choice} (k : Reaching s f first
     {n : ℕ} (is : n ≡ rule-of (c .place)) where
   -- a choice of a place that has a rule
   pub chosen : {r : ℕ} → n ≡ r → eqb r 0 ≡ false → Chose s here (c .end)
-  chosen {r} p z = some-chosen (k .ready) q (λ o. eqb-false r 0 z (sym p ∙ is ∙ o))
+  chosen {r} p z = some-chosen f (k .ready .standing) (k .ready .between) q (λ o. eqb-false r 0 z (sym p ∙ is ∙ o))
 
   -- behind what a rule passes the reader goes on, with less of the text before it
   passed : {r : ℕ} {p : Place} → n ≡ r → eqb r 0 ≡ false
@@ -112,18 +97,13 @@ module _ {s f : Bytes} {first here : Place} {c : Choice} (k : Reaching s f first
 
 -- ---- rulings
 
--- before the text's end a turn acts on the choice
-turn-is : (s name f : Bytes) (at : Place) (c : Choice) → c ≡ select s f (at .st .offset) → at .st .offset < length s → token-turn s name f (at .st) ≡ act s name f (at .st) c
-unfolding token-turn
-turn-is s name f at c q h = rw (token-turn, lt-leb _ _ h, ← q)
-
 module _ {s f : Bytes} {here : Place} {c : Choice} (h : Faces s f here c) (accepted : class-check f ≡ 0) {n : ℕ} (q : n ≡ rule-of (c .place)) (short : Short n) where
   ready : Between s f here
   ready = record { standing = h .standing; between = h .between; accepted = accepted }
 
   -- a choice whose rule gives a ruling ends behind the reader
   pub ruling-chose : Chose s here (c .end)
-  ruling-chose = some-chosen ready (h .chosen) (λ o. short .short .0 .0 .0 .0 .0 .0 .0 .0 .1 (q ∙ o))
+  ruling-chose = some-chosen f (h .standing) (h .between) (h .chosen) (λ o. short .short .0 .0 .0 .0 .0 .0 .0 .0 .1 (q ∙ o))
 
   -- the step that the ruling stands for is the next item
   pub ruling-next : {x : Ruling} (name : Bytes) → length name ≤ 4096 → Rules s name here (c .end) (does s name f n (here .st) (c .place) (c .end) (c .word)) x
@@ -132,4 +112,4 @@ module _ {s f : Bytes} {here : Place} {c : Choice} (h : Faces s f here c) (accep
       let o = ruling-chose .onward in
       let before : here .st .offset < length s = omega (arith, o .past, o .within) in
       token-unroll s name f (here .st)
-      ∙ ap (λ (t : Token-turn). says t (next-token s name f)) (turn-is s name f here c (h .chosen) before ∙ ruled-acts (chosen-acts ready (h .chosen) before named) q rules)
+      ∙ ap (λ (t : Token-turn). says t (next-token s name f)) (turn-is s name f (here .st) c before (h .chosen) ∙ ruled-acts (chosen-acts ready (h .chosen) before named) q rules)

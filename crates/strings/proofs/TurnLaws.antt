@@ -1,6 +1,5 @@
 -- A turn does what stands at the state's offset asks for. Rests on nothing but the definition.
-use Prim.Native.Nat.{ℕ}
-use mathlib.Core.Path.{_≡_, refl}
+use mathlib.Core.Path.{_≡_}
 use lib.Dec.{ltb, leb}
 use lib.ListN.{length}
 use Rattle.definition.specs.Basics.{Bytes, ch}
@@ -11,8 +10,6 @@ use Rattle.definition.specs.Comment.{run-end}
 use Rattle.definition.specs.Strings.{string-stop, escape-turn, string-turn}
 use Rattle.definition.specs.declared.Pos.{Pos}
 use Rattle.definition.specs.declared.State.{State}
-use Rattle.definition.specs.declared.Match.{Match}
-use Rattle.definition.specs.declared.Match.the-variants.{To, Nothing}
 use Rattle.lemmas.proofs.Cases.{by-found, by-outcome}
 use Rattle.string_moves.specs.Moves.{escape-move, last-move, stop-move, broken-line, string-move}
 use Rattle.strings.specs.Literal.{does}

@@ -1,5 +1,5 @@
 -- The bytes that stay are the trimmed lines joined. Rests on the definition of `trimmed`, and on the laws of the bytes that stay.
-use Prim.Native.Nat.{ℕ, zero, suc, _-_}
+use Prim.Native.Nat.{ℕ, zero, suc}
 use mathlib.Core.Path.{_≡_, refl, sym, ap, ap₂, _∙_}
 use mathlib.Core.Bool.{true, false}
 use mathlib.Core.List.{List, [], _∷_, map}

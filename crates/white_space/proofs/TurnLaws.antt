@@ -24,10 +24,14 @@ use Rattle.described.proofs.Turning.{turned-again}
 use Rattle.white_space.specs.White.{Between, Passes, Behind}
 use Rattle.white_space.specs.declared.Passed.the-variants.{On}
 
--- what is done with a choice before the text's end
-pub turn-acts : (s name f : Bytes) (st : State) (c : Choice) (t : Turned) → st .offset < length s → c ≡ select s f (st .offset) → Turns s name f (act s name f st c) t → Turns s name f (token-turn s name f st) t
+-- before the text's end a turn acts on the choice
+pub turn-is : (s name f : Bytes) (st : State) (c : Choice) → st .offset < length s → c ≡ select s f (st .offset) → token-turn s name f st ≡ act s name f st c
 unfolding token-turn
-turn-acts s name f st c t h q d = rw (token-turn, lt-leb _ _ h, ← q) d
+turn-is s name f st c h q = rw (token-turn, lt-leb _ _ h, ← q)
+
+-- so what is done with the choice is what is done in the turn
+pub turn-acts : (s name f : Bytes) (st : State) (c : Choice) (t : Turned) → st .offset < length s → c ≡ select s f (st .offset) → Turns s name f (act s name f st c) t → Turns s name f (token-turn s name f st) t
+turn-acts s name f st c t h q d = rw (turn-is s name f st c h q) d
 
 -- a turn stands where it goes on, and has read something
 turn-leads : (s name f : Bytes) (st : State) → Stands s st → st .mode ≡ 0

@@ -14,7 +14,7 @@ use Rattle.definition.specs.Utf8.{encode, encode-all}
 use Rattle.definition.specs.Text.{lexeme}
 use Rattle.definition.specs.Kinds.{kind}
 use Rattle.definition.specs.Tables.{Entry, cps, keywords, constructors, uoperators, op-tokens, mixfix-rules}
-use Rattle.definition.specs.Token.{Token-turn, entry, finish, finish-entry, finish-word, ident, starts-with, reserved-prefix}
+use Rattle.definition.specs.Token.{entry, finish, finish-entry, finish-word, ident, starts-with, reserved-prefix}
 use Rattle.definition.specs.declared.State.{State}
 use Rattle.lemmas.proofs.Cases.{by-test}
 use Rattle.spellings.specs.Words.{spelled}

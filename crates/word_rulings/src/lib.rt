@@ -4,14 +4,14 @@
 // payload and state. No payload is copied: each is a part of the text or a text of the tables.
 // Assumed: nothing but what each function's `requires` says: a reader stands in a sound state of a legal text, and the
 // choice ends behind it (`Chose`; `worded`, which isn't lent the text, promises what it does where that holds).
+use constructors::constructor;
 use described::Payload;
 use described::Place;
 use entries::kind_at;
 use lookups::Word;
-use lookups::reserved;
-use lookups::table::constructor;
-use lookups::table::keyword;
-use lookups::table::uoperator;
+use lookups::keyword;
+use lookups::uoperator;
+use reserved_prefix::reserved;
 use rulings::Ruling;
 ghost use Rattle.definition.specs.Basics.{Bytes};
 ghost use Rattle.definition.specs.Tables.{constructors, uoperators};

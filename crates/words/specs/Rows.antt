@@ -1,14 +1,12 @@
 -- The definition's tables as rows of a number and a word: trying some of them in turn, the first that fits, and those that may stand
 -- where a byte does.
-use Prim.Native.Nat.{ℕ, zero, suc, _≤_}
-use mathlib.Core.Path.{_≡_}
-use mathlib.Core.Logic.{_≢_}
-use mathlib.Core.Bool.{Bool, true, false, not, _&&_}
+use Prim.Native.Nat.{ℕ, zero, suc}
+use mathlib.Core.Bool.{Bool, true, false, _&&_}
 use mathlib.Core.List.{List, [], _∷_, _++_, map}
 use lib.Dec.{eqb}
-use lib.ListN.{length, take, replicate}
-use Rattle.definition.specs.Basics.{Bytes, ch, between, if_then_else_}
-use Rattle.definition.specs.Tables.{Entry, cps, op-tokens, kw-op-rules}
+use lib.ListN.{take, replicate}
+use Rattle.definition.specs.Basics.{Bytes}
+use Rattle.definition.specs.Tables.{Entry, cps, op-tokens}
 use Rattle.definition.specs.Matchers.{match-lit}
 use Rattle.definition.specs.Select.{keep, found}
 use Rattle.definition.specs.declared.Choice.{Choice}
@@ -57,20 +55,6 @@ abbrev pub starts-two : ℕ → ℕ → Bytes → Bool
 starts-two a b [] = true
 starts-two a b (c ∷ []) = eqb c a
 starts-two a b (c ∷ d ∷ l) = eqb c a && eqb d b
-
--- the two bytes that an early literal may begin with
-abbrev pub early-pair : ℕ → ℕ → Bool
-early-pair a b =
-    if eqb a (ch "s") then eqb b (ch "e") else (if eqb a (ch "#") then between (ch "a") (ch "z") b else (if eqb a (ch "%") then eqb b (ch "s") else eqb a (ch "`")))
-
--- the keyword-operator words that may stand where the byte a does and are not n bytes long
-abbrev pub kw-ops-off : ℕ → ℕ → List Row
-kw-ops-off a n = only-rows (λ r. starts-with a (r .1) && not (eqb (length (r .1)) n)) (numbered 0 kw-op-rules)
-
--- n is how long each keyword-operator word is that may stand where the byte a does, or 0, which says nothing of them; the longest has 6 bytes
-pub record Reach (a n : ℕ) : Type 0 where
-  pub short : n ≤ 6
-  pub each : n ≢ 0 → kw-ops-off a n ≡ []
 
 -- the operator tokens that may stand where the byte b does
 abbrev pub tokens-at : ℕ → List Row

@@ -1,7 +1,5 @@
 -- The two kinds are the definition's.
 use Rattle.definition.specs.Kinds.{kind, kind-names, number-from}
-use Rattle.blobs.specs.Contents.{kind-of}
-use borrow.Author.Needs.{needs}
 use Rattle.blobs.proofs.kind_of.Statement.{statement}
 use Rattle.blobs.proofs.kind_of.Tie as tie
 

@@ -1,5 +1,4 @@
 -- One of the two.
-use Rattle.blobs.specs.Moves.{move-at}
 use borrow.Author.Needs.{needs}
 use Rattle.blobs.proofs.move_at.Statement.{statement}
 use Rattle.blobs.proofs.move_at.Tie as tie

@@ -1,6 +1,5 @@
 -- Each case is the definition's, and its sums fit because the whole length does.
 use native.Mathlib.Omega.{arith}
-use Rattle.described.specs.Described.{Listed, length-of}
 use borrow.Author.Needs.{needs}
 use Rattle.described.proofs.length_of.Statement.{statement}
 use Rattle.described.proofs.length_of.Tie as tie

@@ -3,7 +3,6 @@ use Prim.Native.Nat.{_-_, _<_}
 use mathlib.Core.List.{[]}
 use native.Mathlib.Omega.{arith}
 use lib.ListN.{length, getD}
-use borrow.Author.Needs.{needs}
 use Rattle.lemmas.proofs.Copies.{Copied, copied-starts, copied-goes-on, copied-ends, copied-length}
 use Rattle.entries.specs.Entries.{texts}
 use Rattle.entries.proofs.text_into.Statement.{statement}

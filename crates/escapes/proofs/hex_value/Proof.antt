@@ -1,6 +1,6 @@
 -- The invariant is `Hexed`: the digits read and those left make the whole value. The measure is the digits left.
 use native.Mathlib.Omega.{arith}
-use Prim.Native.Nat.{_-_, _+_, _≤_}
+use Prim.Native.Nat.{_-_, _+_}
 use mathlib.Core.Logic.{inl, inr}
 use borrow.Author.Needs.{needs}
 use Rattle.numerals.proofs.Values.{digit-small}

@@ -1,5 +1,5 @@
 -- The range's positions are asked for one behind the other.
-use Rattle.finishes.proofs.Spanning.{over-reads}
+use Rattle.rulings.proofs.Building.{over-reads}
 use Rattle.rulings.proofs.Spanning.{asked-stands, end-asked, same-line}
 use borrow.Author.Needs.{needs}
 use Rattle.finishes.proofs.error_over.Statement.{statement}

@@ -1,5 +1,5 @@
 -- The token's positions are asked for one behind the other.
-use Rattle.finishes.proofs.Spanning.{end-small, span-asked, span-reads}
+use Rattle.rulings.proofs.Building.{end-small, span-asked, span-reads}
 use native.Mathlib.Omega.{arith}
 use borrow.Author.Needs.{needs}
 use Rattle.finishes.proofs.finish_from.Statement.{statement}

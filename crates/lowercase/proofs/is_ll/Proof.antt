@@ -1,11 +1,21 @@
--- `is_ll` meets its contract: c is in one of the ranges where a range is found.
+-- `is_ll` meets its contract: c is in one of the ranges where a range is found; where its block tells, its bit is its test.
 use mathlib.Core.Path.{ap, _∙_}
 use borrow.Author.Needs.{needs}
 use Rattle.definition.specs.Lowercase.{is-ll}
 use Rattle.members.specs.Search.{is-found}
 use Rattle.members.proofs.SearchLaws.{found-in-ranges}
+use Rattle.lowercase.proofs.BlockLaws.{bit-told}
 use Rattle.lowercase.proofs.is_ll.Statement.{statement}
 use Rattle.lowercase.proofs.is_ll.Tie as tie
+
+block-letters-requires : tie.Need-block-letters-requires
+block-letters-requires c κs = search needs
+
+enum-known-letters : tie.Need-enum-known-letters
+enum-known-letters c = search needs
+
+enum-told : tie.Need-enum-told
+enum-told c = search needs
 
 find-ll-requires : tie.Need-find-ll-requires
 find-ll-requires c κs = search needs
@@ -17,5 +27,27 @@ returns : tie.Need-returns
 unfolding is-ll
 returns c = c .is-some .ensures ∙ ap is-found (c .before .find-ll .ensures) ∙ found-in-ranges _ _
 
+cast-result : tie.Need-cast-result
+cast-result c = search needs
+
+shr-result : tie.Need-shr-result
+shr-result c = search needs
+
+returns-2 : tie.Need-returns-2
+returns-2 c =
+    let p = c .before .before .before .before .args .c in
+    bit-told p (c .before .before .before .block-letters .ensures) (c .before .letters .given .1)
+
 pub is-ll-spec : {M : Type 1} → statement M
-is-ll-spec = tie.close (tie.spec find-ll-requires is-some-requires returns)
+is-ll-spec =
+    tie.close
+    (tie.spec
+    block-letters-requires
+    enum-known-letters
+    enum-told
+    find-ll-requires
+    is-some-requires
+    returns
+    cast-result
+    shr-result
+    returns-2)

@@ -2,7 +2,6 @@
 use borrow.Author.Needs.{needs}
 use mathlib.Core.Path.{sym, ap, _∙_}
 use lib.Dec.{ltb}
-use Rattle.numerals.specs.Contracts.{Base}
 use Rattle.numerals.proofs.Values.{base-named, int-empty, int-plain, int-zero, int-decimal, int-based}
 use Rattle.numerals.proofs.above_255.Statement.{statement}
 use Rattle.numerals.proofs.above_255.Tie as tie

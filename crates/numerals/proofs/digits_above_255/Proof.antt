@@ -1,7 +1,7 @@
 -- The invariant is `Reading`: the value so far is 255 at most, and with the digits left it makes the whole. The measure is the digits left.
 use borrow.Author.Needs.{needs}
 use native.Mathlib.Omega.{arith}
-use Prim.Native.Nat.{_-_, _≤_}
+use Prim.Native.Nat.{_-_}
 use lib.ListN.{length}
 use Rattle.numerals.proofs.Values.{Reading, digit-small, product-small, reading-starts, reading-goes-on, reading-stops, reading-ends}
 use Rattle.numerals.proofs.digits_above_255.Statement.{statement}

@@ -2,7 +2,6 @@
 use mathlib.Core.Path.{refl, _∙_}
 use Rattle.lemmas.proofs.Tails.{behind}
 use Rattle.payloads.proofs.Parts.{whole}
-use native.Mathlib.Omega.{arith}
 use borrow.Author.Needs.{needs}
 use Rattle.payloads.proofs.write_file_line.Statement.{statement}
 use Rattle.payloads.proofs.write_file_line.Tie as tie

@@ -1,5 +1,4 @@
 -- The digits stand between the parentheses, which are written last.
-use lib.ListN.{length-set}
 use Rattle.definition.specs.Utf8.{encode, encode-all}
 use Rattle.definition.specs.Tables.{cps}
 use Rattle.payloads.proofs.Parts.{on-both-sides, mark-room}

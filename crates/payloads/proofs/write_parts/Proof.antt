@@ -2,7 +2,6 @@
 use mathlib.Core.Path.{sym, _∙_}
 use lib.Seq.{length-slice}
 use Rattle.lemmas.proofs.Tails.{behind}
-use native.Mathlib.Omega.{arith}
 use borrow.Author.Needs.{needs}
 use Rattle.payloads.proofs.write_parts.Statement.{statement}
 use Rattle.payloads.proofs.write_parts.Tie as tie

@@ -1,5 +1,4 @@
 -- Each case is the definition's.
-use Rattle.records.specs.Numbers.{extra-numbers}
 use borrow.Author.Needs.{needs}
 use Rattle.records.proofs.extra_numbers.Statement.{statement}
 use Rattle.records.proofs.extra_numbers.Tie as tie

@@ -3,7 +3,6 @@ use native.Mathlib.Omega.{arith}
 use Prim.Native.Nat.{_-_}
 use mathlib.Core.Path.{_∙_}
 use lib.ListN.{length}
-use borrow.Author.Needs.{needs}
 use Rattle.same_bytes.proofs.Prefix.{Agrees, agrees-starts, agrees-goes-on, agrees-stops, agrees-ends}
 use Rattle.same_bytes.proofs.WordLaws.{whole, other-length}
 use Rattle.same_bytes.proofs.spells.Statement.{statement}

@@ -4,7 +4,8 @@ use Prim.Native.Nat.{_-_}
 use mathlib.Core.Path.{refl}
 use lib.ListN.{length}
 use Rattle.rules.proofs.RuleLaws.{end-fits, line-fits}
-use Rattle.sights.proofs.SightLaws.{Reaching, reaching-starts, reaching-behind, sight-tabled, chosen, passed-white, passed-line, seen}
+use Rattle.rules.proofs.RuleLaws.{chosen-tabled}
+use Rattle.sights.proofs.SightLaws.{Reaching, reaching-starts, reaching-behind, chosen, passed-white, passed-line, seen}
 use native.Mathlib.Omega.{arith}
 use borrow.Author.Needs.{needs}
 use Rattle.sights.proofs.look.Statement.{statement}
@@ -31,7 +32,7 @@ select-requires : tie.Need-select-requires Inv-loop μ-loop
 select-requires c κs = c .before .before .before .before .before .before .pre .lent
 
 rule-of-requires : tie.Need-rule-of-requires Inv-loop μ-loop
-rule-of-requires c κs = sight-tabled _ _ _ _ (c .select .ensures) .place
+rule-of-requires c κs = chosen-tabled _ _ _ (c .select .ensures) .place
 
 moved-requires : tie.Need-moved-requires Inv-loop μ-loop
 moved-requires c κs = end-fits (chosen (reaching-behind (c .before .before .before .before .before .before .loop .inv) (c .before .before .before .before .before .behind-white .ensures)) (c .before .before .select .ensures) (c .before .rule-of .ensures) (c .if1 .taken) refl)

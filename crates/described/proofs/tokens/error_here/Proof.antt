@@ -2,7 +2,6 @@
 use Rattle.described.proofs.Standing.{asks-here, stays}
 use Rattle.described.proofs.Building.{error-here-reads}
 use native.Mathlib.Omega.{arith}
-use borrow.Author.Needs.{needs}
 use Rattle.described.proofs.tokens.error_here.Statement.{statement}
 use Rattle.described.proofs.tokens.error_here.Tie as tie
 
