@@ -3,8 +3,8 @@ use mathlib.Core.Path.{_≡_, refl, _∙_}
 use mathlib.Core.List.{[]}
 use lib.ListN.{length}
 use Rattle.progress.proofs.Moves.{left}
-use Rattle.rules.proofs.RuleLaws.{rule-small}
-use Rattle.sights.proofs.SightLaws.{sight-tabled, ruling-chose}
+use Rattle.rules.proofs.RuleLaws.{rule-small, chosen-tabled}
+use Rattle.sights.proofs.SightLaws.{ruling-chose}
 use Rattle.puts.proofs.TokenLaws.{ruling-asks}
 use Rattle.bursts.proofs.BurstLaws.{no-ruling, a-ruling, Bursting, bursting-starts, bursting-looks, bursting-writes, bursting-chosen, bursting-left, bursting-put, bursts-nowhere}
 use native.Mathlib.Omega.{arith}
@@ -29,7 +29,7 @@ look-requires : tie.Need-look-requires Inv-loop μ-loop
 look-requires c κs = bursting-looks (c .loop .inv .0) (c .before .before .before .before .before .before .before .before .pre .1)
 
 rule-of-requires : tie.Need-rule-of-requires Inv-loop μ-loop
-rule-of-requires c κs = sight-tabled _ _ _ _ (c .before .before .look .ensures .faces .chosen) .place
+rule-of-requires c κs = chosen-tabled _ _ _ (c .before .before .look .ensures .faces .chosen) .place
 
 gives-ruling-requires : tie.Need-gives-ruling-requires Inv-loop μ-loop
 gives-ruling-requires c κs = rw (c .rule-of .ensures) (rule-small _)
@@ -48,7 +48,7 @@ ruled-requires c κs =
     let h = c .before .before .before .before .before .look .ensures .faces in
     let q = c .before .before .rule-of .ensures in
     let short = a-ruling _ (c .before .gives-ruling .result) (c .before .gives-ruling .ensures) (c .if2 .left) in
-    (ruling-chose h (c .before .before .before .before .before .before .loop .inv .0 .between .accepted) q short, sight-tabled _ _ _ _ (h .chosen), q, short)
+    (ruling-chose h (c .before .before .before .before .before .before .loop .inv .0 .between .accepted) q short, chosen-tabled _ _ _ (h .chosen), q, short)
 
 mul-put-ruling : tie.Need-mul-put-ruling Inv-loop μ-loop
 mul-put-ruling c = omega (arith, c .before .before .before .before .before .before .before .loop .inv .0 .between .kept .begun)

@@ -1,7 +1,5 @@
 -- `read_numbers` is safe and ends. At most sixteen numbers are read; the measure is how many may follow.
-use mathlib.Core.Path.{_≡_}
 use Prim.Native.Nat.{_≤_, _-_}
-use lib.ListN.{length}
 use borrow.Author.Needs.{needs}
 use Rattle.case_lines.proofs.read_numbers.Statement.{statement}
 use Rattle.case_lines.proofs.read_numbers.Tie as tie
