@@ -2,8 +2,8 @@
 // and what is handed from function to function for an item costs more than the token.
 //
 // Proved: behind the tokens what is still to come of the run is what was to come before them, whatever the file's name is (no
-// token that is written here has it in its payload, so the contract asks for any name, the empty one), and what stands ahead
-// there is said (`BurstsTo`). That as many tokens as possible are written is not promised: what is left, a turn writes.
+// token that is written here has it in its payload: the contract asks with the empty name and promises for every one), and
+// what stands ahead there is said (`BurstsTo`). That as many tokens as possible are written is not promised: what is left, a turn writes.
 // Assumed: nothing but what `write_tokens`'s `requires` says: the run was not refused and stands between two items, and the
 // tables of operator and of symbol characters are lent.
 use columns::Stretch;
@@ -29,8 +29,8 @@ pub struct Burst {
     pub used: usize,
 }
 
-// Writes the tokens that stand one behind the other from `start` on, between comments, until something else stands ahead or
-// a buffer is full.
+// Writes the tokens that stand one behind the other from `start` on, between comments, until something else stands ahead, a
+// token whose payload is no short one among it, or a buffer is full.
 pub fn write_tokens(
     text: &[u8],
     classes: &[u8],

@@ -60,7 +60,7 @@ fn check_fault(site: Site, line: &[u8], fault: u32) -> u64 {
     differs(site, b"the line can't be read")
 }
 
-// The line where the case began that is open, or not, behind the last line.
+// The line where the case began: the last one, where that opened or closed it.
 fn begin_of(before: Progress, open: bool) -> u64 {
     let case = before.case;
     if case.open != open {

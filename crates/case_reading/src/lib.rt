@@ -1,6 +1,6 @@
 // The files of cases, opened and read case by case.
-// Proved: each function is safe and ends, the buffer is as long as it is said to be, a count of bytes read is one of the
-// buffer's first bytes, and behind each case less is left to read. Assumed: what `libc` and `os` declare of reading and
+// Proved: each function is safe and ends, the buffer is as long as it is said to be, no more bytes are counted as
+// read than the buffer has, and behind each case less is left to read. Assumed: what `libc` and `os` declare of reading and
 // writing.
 use case_files::Progress;
 use case_files::closed;

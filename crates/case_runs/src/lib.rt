@@ -18,7 +18,8 @@ use reports::same_number;
 use std::num::wrapping_add_u64;
 use std::num::wrapping_add_usize;
 use std::num::wrapping_sub_usize;
-ghost use Prim.Native.Nat.{_<_};
+ghost use mathlib.Core.Path.{_≡_};
+ghost use Prim.Native.Nat.{_<_, _≤_};
 
 // The kinds of runs, as they come from the last to the first. Behind the last item: with no room, and with all; none is
 // written. For each item: from the beginning up to it; the item alone, in buffers that just hold it; with a byte too few, and
@@ -36,8 +37,8 @@ const TIGHT: usize = 5;
 const SHORT: usize = 6;
 
 // How far the runs are: the state that the case begins with, and the one that the last item's run handed back; the item that is
-// next, as the first number of its record, the first byte of its payload, and its size; how many runs are left; and how many
-// lines were written.
+// next, as the first number of its record, the first byte of its payload, and its size; how many runs are left at most (an item
+// of no bytes has one less); and how many lines were written.
 pub struct Course {
     pub begin: State,
     pub st: State,
@@ -56,7 +57,7 @@ fn is_split(case: Case) -> bool {
     !case.lent
 }
 
-// How many runs there are: four for each item, and two.
+// How many runs there are at most: four for each item, and two.
 fn runs_of(case: Case, want: usize) -> usize {
     if is_split(case) {
         return want / RECORD * 4 + 2;
@@ -94,8 +95,10 @@ pub fn begun(case: Case, want: &[u32], differences: u64) -> Course {
     }
 }
 
-// The kind of the next run, where so many are left.
-fn kind_of(left: usize) -> usize {
+// The kind of the next run, where so many are left at most.
+fn kind_of(left: usize) -> usize
+    ensures { λ r. ⌜ (r ≡ 6 → 6 ≤ left) ⌝ }
+{
     if left < UP_TO {
         return left;
     }
@@ -175,9 +178,6 @@ fn left_behind(left: usize, size: usize) -> usize
     ensures { λ r. ⌜ r < left ⌝ }
 {
     if size != 0 {
-        return left - 1;
-    }
-    if left < SHORT {
         return left - 1;
     }
     if kind_of(left) == SHORT {

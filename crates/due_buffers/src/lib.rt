@@ -1,6 +1,6 @@
 // What a run should leave in its buffers, by the wanted records and payloads: both buffers are filled before it, so that what a
 // run must not touch is known too.
-// Proved: each function is safe and ends. Assumed: nothing.
+// Proved: each function is safe and ends. Assumed: nothing but what each function's `requires` says.
 use std::num::wrapping_add_u32;
 ghost use mathlib.Core.Path.{_≡_};
 ghost use Prim.Native.Nat.{_+_, _≤_};

@@ -1,7 +1,7 @@
 // What the programs read, and what they read it into: files, and buffers with one byte more than a text or a class file may
 // have, so that a longer one is refused and not cut.
-// Proved: each function is safe and ends; the buffers are as long as they are said to be; a count of bytes read is one of
-// the buffer's first bytes. Assumed: what `libc` and `os` declare of reading; a read that fails counts as the end.
+// Proved: each function is safe and ends; the buffers are as long as they are said to be; no more bytes are counted
+// as read than a buffer has. Assumed: what `libc` and `os` declare of reading; a read that fails counts as the end.
 ghost use mathlib.Core.Path.{_≡_};
 ghost use Prim.Native.Nat.{_≤_};
 ghost use lib.ListN.{length};

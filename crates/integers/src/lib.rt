@@ -1,5 +1,6 @@
 // Integers with their suffixes. The digits of an integer are read once: a suffix is looked for behind their ends by the
-// functions named `.._after`, which take these ends.
+// functions named `.._after`, which take these ends, and which `select` runs; `match_int_suffix` and `match_int_usuffix`, the
+// source's functions, are the same from an offset.
 //
 // Proved: the answer of each public function is what the definition gives, at any offset of any bytes.
 // Assumed: nothing.

@@ -1,5 +1,5 @@
 -- The bits of a block say which of its code points are letters, and they hang on the ranges alone that meet the block, so that only
--- those are computed with. Rests on nothing but the definition's `ll-tbl`.
+-- those are computed with. Rests on the definition's `ll-tbl` and on the laws of tests.
 use Prim.Native.Nat.{ℕ, zero, suc, _+_, _*_, _/_, _%_, _^_, _≤_, _<_}
 use mathlib.Core.Path.{_≡_, refl, sym, ap, _∙_}
 use mathlib.Core.Bool.{Bool, true, false, _||_}

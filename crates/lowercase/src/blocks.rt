@@ -22,8 +22,8 @@ fn without_letters(k: u32) -> Block
     }
 }
 
-// What is told of the code points from 64 * k on. The arms up to 22 are Latin, Greek, Cyrillic and Armenian, those from 132 on the
-// letterlike symbols and arrows.
+// What is told of the code points from 64 * k on. The arms up to 22 are Latin, Greek, Cyrillic and Armenian, those from 132 on
+// letterlike symbols, number forms and arrows.
 pub fn block_letters(k: u32) -> Block
     ensures { λ r. ⌜ Tells k r ⌝ }
 {

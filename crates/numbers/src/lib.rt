@@ -1,5 +1,6 @@
 // Floats, reals, and numbers that go wrong. A digit of an integer or of a fraction is read once: what may follow them is
-// looked for behind their ends by the functions named `.._after`, which take these ends.
+// looked for behind their ends by the functions named `.._after`, which take these ends, and which `select` runs; the source's
+// `match_floatp`, `match_floate`, `match_real` and `match_bad_number` are the same from an offset.
 //
 // Proved: the answer of each public function is what the definition gives, at any offset of any bytes.
 // Assumed: nothing but what each function's `requires` says: a class file that `class_check` accepts where a class is

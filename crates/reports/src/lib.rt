@@ -2,8 +2,8 @@
 // Proved: each is safe and ends. Assumed: what `libc` declares of `write`.
 use libc::STDOUT_FILENO;
 
-// Where a difference was found: a file, by its place in the program's list, the line of its `case`, and the run: 0 for the
-// run over the whole text, k for what begins at item k.
+// Where a difference was found: a file, by its place in the program's list, the line of its `case`, and the run: k for the
+// runs of item k alone and up to it, 0 for all others and for what is checked before any run.
 pub struct Site {
     pub file: u32,
     pub line: u64,

@@ -59,7 +59,7 @@ turn-goes s name f st p h m t =
       less = g .holds .1;
     }
 
--- ---- white space before a turn
+-- ---- white space before a choice
 
 pub behind-starts : {s f : Bytes} {at : Place} → Between s f at → Behind s f at at
 behind-starts h = record { ready = h; same = λ name. refl; less = omega arith }
