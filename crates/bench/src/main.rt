@@ -9,31 +9,17 @@
 use definition::State;
 use inputs::class_buffer;
 use inputs::least;
+use inputs::payload_buffer;
 use inputs::read_classes;
+use inputs::record_buffer;
 use inputs::text_buffer;
 use libc::STDIN_FILENO;
 use libc::STDOUT_FILENO;
-ghost use mathlib.Core.Path.{_≡_};
-ghost use lib.ListN.{length};
 
 // What a whole run gave: the items, or the refusal's number.
 struct Whole {
     refusal: u32,
     items: u64,
-}
-
-// The records of 65,536 items.
-fn record_buffer() -> [u32; 1048576]
-    ensures { λ r. ⌜ 1048576 ≡ length r ⌝ }
-{
-    [0; 1048576]
-}
-
-// More than the longest payload, which a text has that is one comment that is never closed.
-fn payload_buffer() -> [u8; 1052672]
-    ensures { λ r. ⌜ 1052672 ≡ length r ⌝ }
-{
-    [0; 1052672]
 }
 
 // A run over the whole text. It runs on after a full buffer. Each run writes an item at least, since every payload fits

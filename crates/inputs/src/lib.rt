@@ -1,9 +1,9 @@
-// What the programs read, and what they read it into: files, and buffers with one byte more than a text or a class file may
-// have, so that a longer one is refused and not cut.
+// What the programs read, and what they read it into: files, and buffers with one byte more than a text, a name or a class file
+// may have, so that a longer one is refused and not cut.
 // Proved: each function is safe and ends; the buffers are as long as they are said to be; no more bytes are counted
 // as read than a buffer has. Assumed: what `libc` and `os` declare of reading; a read that fails counts as the end.
 ghost use mathlib.Core.Path.{_≡_};
-ghost use Prim.Native.Nat.{_≤_};
+ghost use Prim.Native.Nat.{min};
 ghost use lib.ListN.{length};
 ghost use Rattle.io.specs.Counts.{Counts};
 
@@ -19,6 +19,27 @@ pub fn class_buffer() -> [u8; 65537]
     ensures { λ r. ⌜ 65537 ≡ length r ⌝ }
 {
     [0; 65537]
+}
+
+// For a file's name, a text and a class file one behind the other.
+pub fn parts_buffer() -> [u8; 1118211]
+    ensures { λ r. ⌜ 1118211 ≡ length r ⌝ }
+{
+    [0; 1118211]
+}
+
+// The records of 65,536 items.
+pub fn record_buffer() -> [u32; 1048576]
+    ensures { λ r. ⌜ 1048576 ≡ length r ⌝ }
+{
+    [0; 1048576]
+}
+
+// More than the longest payload, which a text has that is one comment that is never closed.
+pub fn payload_buffer() -> [u8; 1052672]
+    ensures { λ r. ⌜ 1052672 ≡ length r ⌝ }
+{
+    [0; 1052672]
 }
 
 // Reads a file that was opened, closes it, and answers how many bytes came; none where it couldn't be opened.
@@ -42,7 +63,7 @@ pub fn read_classes(file: &mut [u8]) -> usize
 
 // The lesser of two numbers.
 pub fn least(a: usize, b: usize) -> usize
-    ensures { λ r. ⌜ (r ≤ a) × (r ≤ b) ⌝ }
+    ensures { λ r. ⌜ r ≡ min a b ⌝ }
 {
     if a < b {
         return a;

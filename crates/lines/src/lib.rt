@@ -31,7 +31,7 @@ fn letter(sort: u32) -> u8
 }
 
 // Writes a blank and a number.
-fn number_into(n: u32, out: &mut [u8]) -> usize
+pub fn number_into(n: u32, out: &mut [u8]) -> usize
     requires { ⌜ 11 ≤ length (now out) ⌝ }
     ensures { λ r. ⌜ Wrote (ch " " ∷ show n) (now (out .entry)) (now (out .exit)) r × (r ≤ 11) ⌝ }
 {
