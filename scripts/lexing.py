@@ -10,9 +10,9 @@ import struct
 import subprocess
 
 from building import ROOT, Failure, built, command
+from definition_tables import kind_names
 
 UNICODE_CLASSES = ROOT / "crates" / "cases" / "data" / "classes-17.bin"
-KIND_LIST = ROOT / "crates" / "definition" / "specs" / "Kinds.antt"
 
 # How much of a file is handed over: a byte more than a run takes, so that the run itself refuses what is longer.
 TEXT_BYTES = 1048577
@@ -123,14 +123,6 @@ def payload_of(line):
     return bytes.fromhex(digits[1]).ljust(LENT_BYTES, b"\xff")
 
 
-def kinds_by_number():
-    """The names of the kinds, from number 1 on."""
-    names = re.search(r"^kind-names =(.*?)∷ \[\]$", first_bytes(KIND_LIST).decode("utf-8"), re.M | re.S)
-    if names is None:
-        raise Failure("%s: %s: there is no list `kind-names`" % (command(), KIND_LIST), 3)
-    return dict(enumerate(re.findall(r'"(\w+)"', names[1]), 1))
-
-
 def position(words, at):
     return {"line": words[at], "column": words[at + 1]}
 
@@ -197,7 +189,7 @@ class Lexer:
 
     def __init__(self, classes):
         self.classes = classes
-        self.kinds = kinds_by_number()
+        self.kinds = dict(enumerate(kind_names(), 1))
 
     @functools.cached_property
     def program(self):
