@@ -4,7 +4,7 @@
 It has `rt check NAME` prove what isn't proved yet, the first time all crates that the program stands on, and build target/bin/NAME.
 From the first crate that had to be proved on, standard error says how many are: in one line that is rewritten where it is a
 terminal, else in a line now and then. Standard output stays empty. Where a proof fails, standard error has what `rt` said, and the
-exit status is 1; where there is no `rt` it is 2."""
+exit status is 3; where there is no `rt` it is 2."""
 import fcntl
 import os
 import pathlib
@@ -136,10 +136,10 @@ def built(name):
         finally:
             progress.end()
     if status:
-        raise Failure(said.rstrip("\n") or "`rt check %s` failed without a word" % name, 1)
+        raise Failure(said.rstrip("\n") or "`rt check %s` failed without a word" % name, 3)
     program = ROOT / "target" / "bin" / name
     if not program.exists():
-        raise Failure("`rt check %s` left no program target/bin/%s" % (name, name), 1)
+        raise Failure("`rt check %s` left no program target/bin/%s" % (name, name), 3)
     return program
 
 

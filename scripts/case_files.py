@@ -15,7 +15,9 @@ DATA = pathlib.Path(__file__).resolve().parent.parent / "crates" / "cases" / "da
 RECORD = 16
 STATE = 9
 EOF, ERROR, STRING, BLOB, USE_LANG_BLOB = 165, 173, 148, 149, 150
-COMMENT = 2
+LAST_KIND = 173
+LAST_ERROR = 7
+TOKEN, COMMENT = 1, 2
 IN_FSTAR = b"// IN F*:"
 NO_RANGES = (b"\0\0\0\0" + b"\x30\0\0\0") * 6
 LINE_ENDS = (b"\r\n", b"\n", b"\r", "\u2028".encode(), "\u2029".encode())
@@ -83,6 +85,8 @@ def bytes_of(word):
     times = 1
     if word.startswith("*"):
         number, _, word = word[1:].partition(" ")
+        if not number.isdigit():
+            raise ValueError("'%s' is no number of times" % number)
         times = int(number)
     return bytes.fromhex(word.replace(" ", "")) * times
 
@@ -91,8 +95,13 @@ def numbers_of(word):
     return [int(n) for n in word.partition("#")[0].split()]
 
 
+HOW_MANY = {"start": 3, "from": STATE, "buffers": 2, "class-check": 1, "refused": 2, "stop": 1, "state": STATE}
+
+
 def take_numbers(case, word, numbers):
-    """A line of numbers; False where its word is none of these."""
+    """A line of numbers; False where its word is none of these, or has more or fewer."""
+    if len(numbers) != HOW_MANY.get(word, len(numbers)):
+        return False
     if word == "start":
         case.start = tuple(numbers)
     elif word == "from":
@@ -323,28 +332,38 @@ def reckon(case):
             walk.step(has_lines, is_string)
         item.end = walk.at
         state = item.after = state_behind(case, item, walk, state)
+    if case.after not in (None, state):
+        raise case.wrong("the state behind its last item is %s" % state)
 
 
 def check(case):
-    """Raises Wrong where a case contradicts itself."""
+    """Raises Wrong where a case contradicts itself, or has what no case can have."""
     if case.refusal and case.items:
         raise case.wrong("it is refused and has items")
     for number, item in enumerate(case.items, 1):
-        if len(item.words) != RECORD or size_of(item.words) != len(item.payload):
+        words = item.words
+        if len(words) != RECORD or words[0] not in (TOKEN, COMMENT):
+            raise case.wrong("item %d is neither a token nor a comment of %d numbers" % (number, RECORD))
+        if words[1] not in (range(1, LAST_KIND + 1) if words[0] == TOKEN else (0,)):
+            raise case.wrong("item %d has a kind that there isn't, %d" % (number, words[1]))
+        if item.is_error() and words[10] not in range(1, LAST_ERROR + 1):
+            raise case.wrong("item %d has an error that there isn't, %d" % (number, words[10]))
+        if size_of(words) != len(item.payload):
             raise case.wrong("item %d has a payload of another size than its numbers say" % number)
-    if case.after and case.items and case.items[-1].after not in (None, case.after):
-        raise case.wrong("the state behind its last item is %s" % case.items[-1].after)
 
 
 def all_cases():
-    """Every case, in the order in which they are run. Those that aren't runs from arbitrary states have their states reckoned."""
+    """Every case, in the order in which they are run."""
     cases = read_cases(DATA / "document.cases")
     for name in ("short.jsonl", "long.jsonl"):
         cases += read_vectors(DATA / name)
+    cases += read_runs(DATA / "runs.jsonl")
+    names = set()
     for case in cases:
+        if case.name in names:
+            raise case.wrong("another case has the same name")
+        names.add(case.name)
+        check(case)
         if not case.refusal:
             reckon(case)
-    cases += read_runs(DATA / "runs.jsonl")
-    for case in cases:
-        check(case)
     return cases

@@ -17,8 +17,7 @@ UNICODE_CLASSES = ROOT / "crates" / "cases" / "data" / "classes-17.bin"
 # How much of a file is handed over: a byte more than a run takes, so that the run itself refuses what is longer.
 TEXT_BYTES = 1048577
 CLASS_BYTES = 65537
-# The longest name that a run takes.
-NAME_BYTES = 4096
+NAME_BYTES = 4097
 
 # What each run is lent: room for 65,536 items, and for any one payload.
 RECORD = 16
@@ -64,7 +63,7 @@ class Refused(Exception):
     """A refusal of a run, in words."""
 
     def __init__(self, number, offset):
-        place = " at byte %d" % offset if number == ILL_FORMED else ""
+        place = " at offset %d" % offset if number == ILL_FORMED else ""
         super().__init__("refused, %d: %s%s" % (number, REFUSALS[number], place))
 
 

@@ -1,5 +1,5 @@
-// What the programs read, and what they read it into: files, and buffers with one byte more than a text, a name or a class file
-// may have, so that a longer one is refused and not cut.
+// What the programs read, what they read it into, and what they lend to a run: files, and buffers, those for a text, a name or a
+// class file with one byte more than these may have, so that a longer one is refused and not cut.
 // Proved: each function is safe and ends; the buffers are as long as they are said to be; no more bytes are counted
 // as read than a buffer has. Assumed: what `libc` and `os` declare of reading; a read that fails counts as the end.
 ghost use mathlib.Core.Path.{_≡_};
