@@ -74,7 +74,7 @@ fn runs(
 fn checks(rounds: usize, text: &[u8]) -> usize {
     let mut legal = text.len();
     for _ in 0..rounds {
-        legal = least(legal, characters::first_bad(&text[..legal]));
+        legal = least(legal, utf8::characters::first_bad(&text[..legal]));
     }
     legal
 }

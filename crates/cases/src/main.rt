@@ -22,7 +22,7 @@
 // Before a run all that it is lent holds 4294967295 and 255, so these lines say what every number and byte holds behind it. A frame
 // that is cut short or too large, or asks for none of the calls, gets a line that says so and is the last.
 //
-// Proved: it ends and breaks nothing; what the calls answer is the definition's (crates `state`, `classes`, `lexer`). What it
+// Proved: it ends and breaks nothing; what the calls answer is the definition's (crates `state`, `class_file`, `lexer`). What it
 // prints for the stored frames is compared with the file stdout. Assumed: what `libc` declares of reading and writing; a read that
 // fails counts as the end.
 mod print; // print.rt: the lines
@@ -92,7 +92,7 @@ fn wide(n: u32) -> usize
 fn numbers_of(head: &[u8; 64]) -> [u32; 16] {
     let mut numbers = [0u32; 16];
     for k in 0..16usize {
-        numbers[k] = classes::check::number_at(head, 4 * k);
+        numbers[k] = class_file::check::number_at(head, 4 * k);
     }
     numbers
 }
@@ -132,7 +132,7 @@ fn answer_start(n: [u32; 16]) {
 
 fn answer_class_check(case: u32, classes: &[u8]) {
     say(b"classes");
-    print_numbers(&[case, classes::check::class_check(classes)]);
+    print_numbers(&[case, class_file::check::class_check(classes)]);
     say(b"\n");
 }
 

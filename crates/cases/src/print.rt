@@ -22,7 +22,7 @@ fn numbers_into(numbers: &[u32], out: &mut [u8]) -> usize
 {
     let mut end = 0;
     for k in 0..numbers.len() {
-        end += lines::number_into(numbers[k], &mut out[end..]);
+        end += listing_lines::number_into(numbers[k], &mut out[end..]);
     }
     end
 }

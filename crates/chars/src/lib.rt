@@ -1,19 +1,22 @@
 // The tests on characters that look them up, in the table of lowercase letters or in a class, in the source's order. An
-// ASCII character is never looked up in a class. (The tests that look nothing up are the crate `fixed_chars`.)
+// ASCII character is never looked up in a class. (The tests that look nothing up are the module `fixed`.)
 // Proved: each is the definition's test; those that read a class file are so for any file that the class check accepts.
 // Assumed: nothing but what each function's `requires` says.
-use fixed_chars::QUOTE;
-use fixed_chars::UNDERSCORE;
-use fixed_chars::between;
-use fixed_chars::is_ascii_ident_char;
-use fixed_chars::is_listed_white;
+pub mod ascii; // ascii.rt: the two tables of 128 yes-or-no entries for operator characters
+pub mod fixed; // fixed.rt: the tests on characters that look nothing up
+
+use crate::fixed::QUOTE;
+use crate::fixed::UNDERSCORE;
+use crate::fixed::between;
+use crate::fixed::is_ascii_ident_char;
+use crate::fixed::is_listed_white;
+use class_file::members::is_lm;
+use class_file::members::is_lo;
+use class_file::members::is_lt;
+use class_file::members::is_lu;
+use class_file::members::is_sm;
+use class_file::members::is_zs;
 use lowercase::is_ll;
-use members::is_lm;
-use members::is_lo;
-use members::is_lt;
-use members::is_lu;
-use members::is_sm;
-use members::is_zs;
 ghost use mathlib.Core.Path.{_≡_};
 ghost use Rattle.definition.specs.ClassFile.{class-check};
 ghost use Rattle.definition.specs.Chars.{is-lower, is-ident-start, is-constructor-start, is-ident-char, is-anywhite, is-uoperator};

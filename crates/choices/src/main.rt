@@ -38,7 +38,7 @@ fn list(text: &[u8], file: &[u8], ops: &[bool; 128], symbols: &[bool; 128])
 {
     let mut i = 0;
     while i < text.len() {
-        let Sequence::Char(_, width) = text::sequence_at(text, i) else {
+        let Sequence::Char(_, width) = utf8::sequence_at(text, i) else {
             return;
         };
         show(i, select::select(text, file, ops, symbols, i));
@@ -52,20 +52,20 @@ fn choices(text: &[u8], file: &[u8]) {
         refuse(6);
         return;
     }
-    let refusal = classes::check::class_check(file);
+    let refusal = class_file::check::class_check(file);
     if refusal != 0 {
         refuse(refusal);
         return;
     }
-    if characters::first_bad(text) != text.len() {
+    if utf8::characters::first_bad(text) != text.len() {
         refuse(8);
         return;
     }
     list(
         text,
         file,
-        &ascii::op_char_table(),
-        &ascii::symbolchar_table(),
+        &chars::ascii::op_char_table(),
+        &chars::ascii::symbolchar_table(),
     );
 }
 

@@ -1,4 +1,4 @@
--- What `unescape` is, an equation for each way that the code takes. Rests on the laws of reading (crate `text`).
+-- What `unescape` is, an equation for each way that the code takes. Rests on the laws of reading (crate `utf8`).
 use Prim.Native.Nat.{ℕ, _+_, _≤_, _<_}
 use mathlib.Core.Path.{_≡_, sym, ap, _∙_}
 use mathlib.Core.Bool.{true, false}
@@ -14,7 +14,7 @@ use Rattle.definition.specs.Escapes.{code-at, unescape}
 use Rattle.definition.specs.declared.Sequence.{Sequence}
 use Rattle.definition.specs.declared.Octet.the-variants.{Byte, Past}
 use Rattle.lemmas.proofs.Cases.{by-order}
-use Rattle.text.proofs.Reading.{byte-within, byte-end, read-end}
+use Rattle.utf8.proofs.Reading.{byte-within, byte-end, read-end}
 use Rattle.escapes.specs.Contracts.{escaped}
 
 -- The code point sees nothing but what stands at the offset.

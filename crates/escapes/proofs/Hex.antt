@@ -1,4 +1,4 @@
--- The value of a few hexadecimal digits, one by one. Rests on the laws of digits (crate `numerals`).
+-- The value of a few hexadecimal digits, one by one. Rests on the laws of digits (crate `number_value`).
 use Prim.Native.Nat.{ℕ, zero, suc, _+_, _*_, _≤_, _<_}
 use mathlib.Core.Path.{_≡_, sym, ap, ap₂, _∙_}
 use mathlib.Core.Logic.{_⊎_, ⊎-elim}
@@ -11,7 +11,7 @@ use lib.Seq.{slice, drop-cons, getD-take}
 use Rattle.definition.specs.Basics.{Bytes}
 use Rattle.definition.specs.Numbers.{digit-value, value-from}
 use Rattle.definition.specs.Escapes.{hex-value}
-use Rattle.numerals.proofs.Values.{digit-small}
+use Rattle.number_value.proofs.Values.{digit-small}
 
 -- i bytes, whatever they are, make at most this
 abbrev most : ℕ → ℕ

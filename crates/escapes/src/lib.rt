@@ -2,11 +2,11 @@
 // Proved: each public function answers what the definition's `unescape` or `is-surrogate` says; `unescape` at any offset of
 // any bytes.
 // Assumed: nothing.
-use characters::byte;
 use definition::Octet;
 use definition::Sequence;
-use numerals::digit_value;
-use text::sequence_at;
+use number_value::digit_value;
+use utf8::characters::byte;
+use utf8::sequence_at;
 ghost use mathlib.Core.Path.{_≡_};
 ghost use Rattle.definition.specs.Escapes.{code-at, hex-value, unescape, is-surrogate};
 ghost use Rattle.escapes.specs.Contracts.{Digits, Behind, escaped};

@@ -4,20 +4,20 @@
 //
 // Proved: for every input `run` answers, and leaves both buffers, as the definition's `run` says, refusals included; and
 // for a run that isn't refused, demand 3 holds at every reading position. Assumed: nothing.
-use ascii::op_char_table;
-use ascii::symbolchar_table;
-use bursts::write_tokens;
+use chars::ascii::op_char_table;
+use chars::ascii::symbolchar_table;
 use definition::RunAnswer;
 use definition::State;
-use described::Place;
-use positions::Cache;
-use refusals::refusal;
-use run_turns::Went;
-use run_turns::turn;
+use fast_path::write_tokens;
+use position::Cache;
+use reader::Place;
+use refusal::refusal;
+use run_turn::Went;
+use run_turn::turn;
 ghost use mathlib.Core.Path.{_≡_};
 ghost use Rattle.definition.specs.Run.{run-items, run};
 ghost use Rattle.definition.specs.Reading.{EveryReading};
-ghost use Rattle.soundness.proofs.Refusals.{Accepted};
+ghost use Rattle.laws_run.proofs.Refusals.{Accepted};
 
 // The items of a run that isn't refused: tokens as long as they follow one another, and then the item that stands ahead.
 fn run_items(

@@ -3,7 +3,7 @@
 // file of no bytes, which the class check refuses with 3. The name is `stdin`, the start 1:0.
 //
 // Proved: it ends; each run is the definition's (crate `lexer`), and what it leaves in the buffer to be written are the
-// definition's lines of its records, so that in all it is a line for each item (proofs/Whole.antt of crate `rounds`); the
+// definition's lines of its records, so that in all it is a line for each item (proofs/Whole.antt of crate `listing_lines`); the
 // number behind END is the count of all items, and REFUSED comes only where the first run is refused. What it writes for
 // document 01's text is compared with the file stdout. Assumed: what `libc` and `os` declare of reading and writing; a read
 // that fails counts as the end of what is read. No contract says what `main` hands over to be written.
@@ -13,17 +13,17 @@ use inputs::read_classes;
 use lexer::run;
 use libc::STDIN_FILENO;
 use libc::STDOUT_FILENO;
-use rounds::Ending;
-use rounds::Round;
-use rounds::line_buffer;
-use rounds::payload_buffer;
-use rounds::record_buffer;
-use rounds::round_of;
-use rounds::too_long;
+use listing_lines::rounds::Ending;
+use listing_lines::rounds::Round;
+use listing_lines::rounds::line_buffer;
+use listing_lines::rounds::payload_buffer;
+use listing_lines::rounds::record_buffer;
+use listing_lines::rounds::round_of;
+use listing_lines::rounds::too_long;
 use state::start;
 ghost use Rattle.definition.specs.Tables.{cps};
 ghost use Rattle.definition.specs.Run.{run};
-ghost use Rattle.rounds.specs.Rounds.{Lent, Begun, Rounded, Ends};
+ghost use Rattle.listing_lines.specs.Rounds.{Lent, Begun, Rounded, Ends};
 
 // A line of a word and a number.
 fn say(word: &[u8], number: u64) {

@@ -12,7 +12,7 @@ use Rattle.definition.specs.Basics.{between}
 use Rattle.definition.specs.ClassFile.{Range, in-ranges}
 use Rattle.definition.specs.Lowercase.{ll-tbl, is-ll}
 use Rattle.lemmas.proofs.Cases.{by-test, either}
-use Rattle.members.proofs.SearchLaws.{between-cases}
+use Rattle.class_file.proofs.SearchLaws.{between-cases}
 use Rattle.lowercase.specs.Blocks.{as-bit, letters, Tells}
 use Rattle.lowercase.specs.declared.blocks.Block.{Block}
 use Rattle.lowercase.specs.declared.blocks.Block.the-variants.{Letters}

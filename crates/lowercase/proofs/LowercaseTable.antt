@@ -10,7 +10,7 @@ use lib.ListN.{length, getD}
 use Rattle.definition.specs.ClassFile.{Range, ascending}
 use Rattle.definition.specs.Lowercase.{ll-tbl, flat}
 use Rattle.definition.proofs.Tables.{ll-ascending}
-use Rattle.classes.specs.Ends.{first-at, last-at}
+use Rattle.class_file.specs.Ends.{first-at, last-at}
 
 -- the one test over the whole table; `each-legal` and `apart` are its rule at each range
 pub ll-ascends : ascending 0 ll-tbl ≡ true

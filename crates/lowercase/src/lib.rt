@@ -8,12 +8,12 @@ mod ll_table; // ll_table.rt: the ranges
 use crate::blocks::Block;
 use crate::blocks::block_letters;
 use crate::ll_table::LL;
-use members::Found;
+use class_file::members::Found;
 ghost use mathlib.Core.Path.{_≡_};
 ghost use Prim.Native.Nat.{_<_};
 ghost use lib.ListN.{getD};
 ghost use Rattle.definition.specs.Lowercase.{ll-tbl, flat, is-ll};
-ghost use Rattle.members.specs.Search.{range-of};
+ghost use Rattle.class_file.specs.Search.{range-of};
 
 const RANGES: usize = 664;
 

@@ -18,8 +18,8 @@ use Rattle.definition.proofs.Sequence.{the-type}
 use Rattle.definition.specs.declared.Match.{Match}
 use Rattle.definition.specs.declared.Match.the-variants.{To, Nothing}
 use Rattle.lemmas.proofs.Cases.{by-outcome}
-use Rattle.text.proofs.Reading.{with-none}
-use Rattle.scan.proofs.RunLaws.{one-yes, one-no, one-other, no-char}
+use Rattle.utf8.proofs.Reading.{with-none}
+use Rattle.star.proofs.RunLaws.{one-yes, one-no, one-other, no-char}
 
 -- ---- a character that passes a test, and a run over another
 

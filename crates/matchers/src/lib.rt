@@ -1,18 +1,20 @@
 // The source's matchers of line ends, identifiers and constructors: from an offset of the text, the end of what is looked
-// for, or that it isn't there. (Those of quotes are the crate `quoted`, those of numbers `integers` and `numbers`; where
+// for, or that it isn't there. (Those of quotes are the module `quoted`, those of numbers the crate `match_number`; where
 // `select` knows the first character, it reads on behind it without `match_constructor`.)
 //
 // Proved: the answer of each function is what the definition gives, at any offset of any bytes.
 // Assumed: nothing but what each function's `requires` says: a class file that `class_check` accepts where a class is
 // asked.
+pub mod quoted; // quoted.rt: escapes, character literals, names in backticks
+
+use chars::fixed::is_newline_char;
 use chars::is_constructor_start;
 use chars::is_ident_start;
 use definition::Match;
 use definition::Sequence;
-use fixed_chars::is_newline_char;
-use peeks::byte_is;
-use scan::star_ident_char;
-use text::sequence_at;
+use match_lit::byte_is;
+use star::star_ident_char;
+use utf8::sequence_at;
 ghost use mathlib.Core.Path.{_≡_};
 ghost use Rattle.definition.specs.ClassFile.{class-check};
 ghost use Rattle.definition.specs.Matchers.{match-newline, match-ident, match-constructor};

@@ -16,21 +16,21 @@ use Rattle.definition.specs.Token.{Token-turn, Rule, rules, any, act}
 use Rattle.definition.specs.declared.Choice.{Choice}
 use Rattle.definition.specs.declared.State.{State}
 use Rattle.lemmas.proofs.Cases.{by-test, both, either}
-use Rattle.progress.proofs.Choices.{Fits, select-fits}
-use Rattle.described.specs.Described.{Known-at, Turns}
-use Rattle.described.specs.Places.{moved, next-line}
-use Rattle.described.specs.Standing.{Standing}
-use Rattle.described.specs.declared.Place.{Place}
-use Rattle.described.specs.declared.Turned.{Turned}
-use Rattle.described.proofs.Standing.{known-kept, known-line}
-use Rattle.soundness.proofs.Moving.{stands-within}
-use Rattle.rulings.specs.Rulings.{Chose, Rules, ruling-step}
-use Rattle.rulings.specs.declared.Ruling.{Ruling}
-use Rattle.rulings.proofs.RulingLaws.{rules-same}
-use Rattle.place_rules.specs.Keys.{Missing, keyed}
-use Rattle.place_rules.specs.Plain.{place-kinds}
-use Rattle.place_rules.specs.Ruling.{rule-numbers, rule-of, does}
-use Rattle.place_rules.specs.Tabled.{table-size, Tabled}
+use Rattle.laws_progress.proofs.Choices.{Fits, select-fits}
+use Rattle.reader.specs.Described.{Known-at, Turns}
+use Rattle.reader.specs.Places.{moved, next-line}
+use Rattle.reader.specs.Standing.{Standing}
+use Rattle.reader.specs.declared.Place.{Place}
+use Rattle.reader.specs.declared.Turned.{Turned}
+use Rattle.reader.proofs.Standing.{known-kept, known-line}
+use Rattle.laws_run.proofs.Moving.{stands-within}
+use Rattle.reader.specs.Rulings.{Chose, Rules, ruling-step}
+use Rattle.reader.specs.declared.rulings.Ruling.{Ruling}
+use Rattle.reader.proofs.RulingLaws.{rules-same}
+use Rattle.rule_table.specs.Keys.{Missing, keyed}
+use Rattle.rule_table.specs.Plain.{place-kinds}
+use Rattle.rule_table.specs.Ruling.{rule-numbers, rule-of, does}
+use Rattle.rule_table.specs.Tabled.{table-size, Tabled}
 use Rattle.rules.specs.Acting.{Acts, ReadsOn, Short, Long}
 use Rattle.rules.proofs.Tabling.{select-tabled}
 

@@ -18,7 +18,7 @@ use Rattle.definition.specs.declared.Match.{Match}
 use Rattle.definition.specs.declared.Match.the-variants.{To, Nothing}
 use Rattle.lemmas.proofs.Cases.{by-test, by-if}
 use Rattle.lemmas.proofs.Each.{Each, none-left, _⨾_}
-use Rattle.place_rules.specs.Tabled.{table-size, Tabled}
+use Rattle.rule_table.specs.Tabled.{table-size, Tabled}
 
 -- every place has a word, if only the one that stands for none
 some-word : (k : ℕ) → 0 < table-size k

@@ -9,10 +9,10 @@ use Rattle.definition.specs.Basics.{Bytes, mem-cp}
 use Rattle.definition.specs.ClassFile.{class-check}
 use Rattle.definition.specs.Select.{select}
 use Rattle.definition.specs.declared.Choice.{Choice}
-use Rattle.described.specs.Standing.{Standing}
-use Rattle.described.specs.declared.Place.{Place}
-use Rattle.place_rules.specs.Keys.{Missing, keyed}
-use Rattle.place_rules.specs.Ruling.{rule-of}
+use Rattle.reader.specs.Standing.{Standing}
+use Rattle.reader.specs.declared.Place.{Place}
+use Rattle.rule_table.specs.Keys.{Missing, keyed}
+use Rattle.rule_table.specs.Ruling.{rule-of}
 
 pub record Acts (s name f : Bytes) (at : Place) (c : Choice) : Type 0 where
   pub standing : Standing s (at .st) (at .known)

@@ -1,6 +1,6 @@
 // What is done with a choice: the definition's rules, but for those of white space and line ends, which read nothing, and what
 // happens where none of the places was chosen. Most rules give a ruling (`ruled`), which is carried out where it is known
-// whether the token fits (crates `bursts` and `finishes`); those that read on from behind the choice, and characters, read
+// whether the token fits (crate `fast_path`, module `finishes`); those that read on from behind the choice, and characters, read
 // for themselves (`act`).
 //
 // Proved: a ruling stands for what the definition's rule gives, and `act` does what the definition's `act` does with the
@@ -8,58 +8,60 @@
 // word of a choice is one of its place's table (Tabling).
 // Assumed: nothing but what each function's `requires` says: a reader stands in a sound state of a legal text, between
 // comments, the choice is `select`'s, and its rule is neither that of white space nor that of a line end. Those two read
-// nothing; who asks for a choice passes them (crate `sights`).
-use character_literals::char_lit;
+// nothing; who asks for a choice passes them (crate `lookahead`).
+pub mod finishes; // finishes.rt: rulings carried out that were not written at once: tokens and errors with their positions
+
 use definition::Choice;
-use described::Place;
-use described::Read;
-use described::tokens::error_here;
-use number_rulings::bad_number;
-use number_rulings::number;
-use number_rulings::uint8;
-use operator_rulings::gt;
-use operator_rulings::kw_op;
-use operator_rulings::op;
-use place_rules::plain::plain;
-use place_rules::table::BAD_NUMBER;
-use place_rules::table::BYTE_NUMBER;
-use place_rules::table::CAPITAL_NAME;
-use place_rules::table::CHARACTER;
-use place_rules::table::COMMENT;
-use place_rules::table::FENCED;
-use place_rules::table::GREATER;
-use place_rules::table::IDENTIFIER;
-use place_rules::table::KEYWORD_OPERATOR;
-use place_rules::table::LANGUAGE;
-use place_rules::table::LINE_COMMENT;
-use place_rules::table::LINE_END;
-use place_rules::table::LITERAL;
-use place_rules::table::NO_RULE;
-use place_rules::table::NUMBER;
-use place_rules::table::PLAIN;
-use place_rules::table::UNICODE_OPERATOR;
-use place_rules::table::WHITE;
-use place_rules::table::kind_of;
-use place_rules::table::rule_of;
-use readers::comment_start;
-use readers::fenced;
-use readers::language;
-use readers::literal;
-use readers::slashes;
-use rulings::Ruling;
-use word_rulings::capital_name;
-use word_rulings::ident;
-use word_rulings::unicode_operator;
+use reader::Place;
+use reader::Read;
+use reader::rulings::Ruling;
+use reader::tokens::error_here;
+use rule_numbers::bad_number;
+use rule_numbers::number;
+use rule_numbers::uint8;
+use rule_operators::gt;
+use rule_operators::kw_op;
+use rule_operators::op;
+use rule_readers::character_literals::char_lit;
+use rule_readers::comment_start;
+use rule_readers::fenced;
+use rule_readers::language;
+use rule_readers::literal;
+use rule_readers::slashes;
+use rule_table::plain::plain;
+use rule_table::table::BAD_NUMBER;
+use rule_table::table::BYTE_NUMBER;
+use rule_table::table::CAPITAL_NAME;
+use rule_table::table::CHARACTER;
+use rule_table::table::COMMENT;
+use rule_table::table::FENCED;
+use rule_table::table::GREATER;
+use rule_table::table::IDENTIFIER;
+use rule_table::table::KEYWORD_OPERATOR;
+use rule_table::table::LANGUAGE;
+use rule_table::table::LINE_COMMENT;
+use rule_table::table::LINE_END;
+use rule_table::table::LITERAL;
+use rule_table::table::NO_RULE;
+use rule_table::table::NUMBER;
+use rule_table::table::PLAIN;
+use rule_table::table::UNICODE_OPERATOR;
+use rule_table::table::WHITE;
+use rule_table::table::kind_of;
+use rule_table::table::rule_of;
+use rule_words::capital_name;
+use rule_words::ident;
+use rule_words::unicode_operator;
 ghost use mathlib.Core.Path.{_≡_};
 ghost use Prim.Native.Nat.{_≤_, _<_};
 ghost use lib.ListN.{length};
 ghost use Rattle.definition.specs.Basics.{Bytes};
 ghost use Rattle.definition.specs.Token.{act};
-ghost use Rattle.described.specs.Described.{Turns};
-ghost use Rattle.described.specs.declared.Turned.the-variants.{Done};
-ghost use Rattle.rulings.specs.Rulings.{Chose, Rules};
-ghost use Rattle.place_rules.specs.Tabled.{Tabled};
-ghost use Rattle.place_rules.specs.Ruling.{rule-of, does};
+ghost use Rattle.reader.specs.Described.{Turns};
+ghost use Rattle.reader.specs.declared.Turned.the-variants.{Done};
+ghost use Rattle.reader.specs.Rulings.{Chose, Rules};
+ghost use Rattle.rule_table.specs.Tabled.{Tabled};
+ghost use Rattle.rule_table.specs.Ruling.{rule-of, does};
 ghost use Rattle.rules.specs.Acting.{Acts, ReadsOn, Short, Long, Sorts};
 
 // An unexpected character.

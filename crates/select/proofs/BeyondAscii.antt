@@ -20,9 +20,9 @@ use Rattle.definition.specs.declared.Sequence.the-variants.{Char}
 use Rattle.definition.specs.declared.Match.{Match}
 use Rattle.definition.specs.declared.Match.the-variants.{To}
 use Rattle.lemmas.proofs.Cases.{by-test, both}
-use Rattle.longest.proofs.Starts.{all-pass}
-use Rattle.longest.proofs.Places.{has-read}
-use Rattle.groups.specs.Groups.{keyword, alone, _or_, at-beyond-ascii}
+use Rattle.laws_longest.proofs.Starts.{all-pass}
+use Rattle.laws_longest.proofs.Places.{has-read}
+use Rattle.select_places.specs.Groups.{keyword, alone, _or_, at-beyond-ascii}
 use Rattle.select.proofs.First.{keep-forward, keep-best, begins, among, select-among}
 use Rattle.select.proofs.Standing.{one-read}
 

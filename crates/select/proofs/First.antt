@@ -20,10 +20,10 @@ use Rattle.definition.specs.declared.Choice.{Choice}
 use Rattle.definition.specs.declared.Sequence.the-variants.{Char}
 use Rattle.lemmas.proofs.Cases.{by-order, by-test, by-if-lt, both, either}
 use Rattle.lemmas.proofs.Each.{Numbered, no-more, _⨟_}
-use Rattle.text.proofs.Reading.{No-char, with-none}
-use Rattle.longest.proofs.Starts.{starts, at-first, step-code}
-use Rattle.longest.proofs.Places.{white-fast, line-fast, Slow, Has, Place, right-one, special, all-places, has-read}
-use Rattle.longest.proofs.Numbers.{numbers}
+use Rattle.utf8.proofs.Reading.{No-char, with-none}
+use Rattle.laws_longest.proofs.Starts.{starts, at-first, step-code}
+use Rattle.laws_longest.proofs.Places.{white-fast, line-fast, Slow, Has, Place, right-one, special, all-places, has-read}
+use Rattle.laws_longest.proofs.Numbers.{numbers}
 
 -- ---- the choice among some of the places
 

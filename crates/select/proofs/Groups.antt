@@ -10,8 +10,8 @@ use Rattle.definition.specs.Tables.{early-literals, kw-op-rules, op-tokens, mix
 use Rattle.definition.specs.Matchers.{plus, match-newline}
 use Rattle.definition.specs.Select.{found, places, try-all, select}
 use Rattle.definition.specs.Patterns.{patterns}
-use Rattle.longest.proofs.Places.{white-fast, line-fast}
-use Rattle.groups.specs.Groups.{
+use Rattle.laws_longest.proofs.Places.{white-fast, line-fast}
+use Rattle.select_places.specs.Groups.{
   at-capital,
   at-letter,
   at-early-letter,

@@ -14,7 +14,7 @@ use Rattle.definition.specs.Select.{none-at, places, try-all, select}
 use Rattle.definition.specs.Patterns.{patterns}
 use Rattle.lemmas.proofs.Cases.{by-test, by-order, both-true}
 use Rattle.lemmas.proofs.Members.{all-in, Rest, keys-of, all-own, no-key, some-keys}
-use Rattle.groups.specs.Groups.{at-letter, at-capital, at-digit}
+use Rattle.select_places.specs.Groups.{at-letter, at-capital, at-digit}
 use Rattle.select.specs.Standing.{Ascii, Other, decided}
 use Rattle.select.proofs.First.{begins, among}
 use Rattle.select.proofs.Standing.{Stands, tried}

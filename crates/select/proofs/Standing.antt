@@ -21,12 +21,12 @@ use Rattle.definition.specs.declared.Match.{Match}
 use Rattle.definition.specs.declared.Match.the-variants.{To, Nothing}
 use Rattle.lemmas.proofs.Cases.{by-order}
 use Rattle.lemmas.proofs.Members.{all-in, mem-yes}
-use Rattle.text.proofs.Reading.{read-end, No-char}
-use Rattle.progress.proofs.Characters.{ascii-at}
-use Rattle.scan.proofs.RunLaws.{ascii-byte}
-use Rattle.longest.proofs.Starts.{all-pass, listed-passes}
-use Rattle.longest.proofs.Places.{has-read}
-use Rattle.groups.specs.Groups.{symbols-behind, name-behind}
+use Rattle.utf8.proofs.Reading.{read-end, No-char}
+use Rattle.laws_progress.proofs.Characters.{ascii-at}
+use Rattle.star.proofs.RunLaws.{ascii-byte}
+use Rattle.laws_longest.proofs.Starts.{all-pass, listed-passes}
+use Rattle.laws_longest.proofs.Places.{has-read}
+use Rattle.select_places.specs.Groups.{symbols-behind, name-behind}
 use Rattle.select.specs.Standing.{Ascii}
 use Rattle.select.proofs.First.{begins, among, select-among}
 

@@ -3,7 +3,7 @@ use mathlib.Core.Path.{sym, _∙_}
 use borrow.Author.Tests.{le-leb, lt-leb}
 use borrow.Author.Needs.{needs}
 use Rattle.definition.specs.Chars.{is-anywhite}
-use Rattle.fixed_chars.specs.Parts.{listed-white}
+use Rattle.chars.specs.Parts.{listed-white}
 use Rattle.chars.proofs.is_anywhite.Statement.{statement}
 use Rattle.chars.proofs.is_anywhite.Tie as tie
 

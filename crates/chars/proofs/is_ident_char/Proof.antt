@@ -3,7 +3,7 @@ use mathlib.Core.Path.{sym, _∙_}
 use borrow.Author.Tests.{lt-ltb, le-ltb}
 use borrow.Author.Needs.{needs}
 use Rattle.definition.specs.Chars.{is-ident-char}
-use Rattle.fixed_chars.specs.Parts.{ascii-ident-char}
+use Rattle.chars.specs.Parts.{ascii-ident-char}
 use Rattle.chars.proofs.is_ident_char.Statement.{statement}
 use Rattle.chars.proofs.is_ident_char.Tie as tie
 

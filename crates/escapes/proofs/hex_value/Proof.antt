@@ -3,7 +3,7 @@ use native.Mathlib.Omega.{arith}
 use Prim.Native.Nat.{_-_, _+_}
 use mathlib.Core.Logic.{inl, inr}
 use borrow.Author.Needs.{needs}
-use Rattle.numerals.proofs.Values.{digit-small}
+use Rattle.number_value.proofs.Values.{digit-small}
 use Rattle.escapes.proofs.Hex.{Hexed, most-small, hexed-starts, hexed-goes-on, hexed-ends}
 use Rattle.escapes.proofs.hex_value.Statement.{statement}
 use Rattle.escapes.proofs.hex_value.Tie as tie

@@ -3,9 +3,9 @@
 use mathlib.Core.Path.{_≡_, refl, _∙_}
 use mathlib.Core.List.{[]}
 use lib.ListN.{length}
-use Rattle.progress.proofs.Moves.{left}
-use Rattle.run_turns.specs.Running.{Going}
-use Rattle.run_turns.proofs.RunLaws.{between-any, going-starts, going-stops, going-on}
+use Rattle.laws_progress.proofs.Moves.{left}
+use Rattle.run_turn.specs.Running.{Going}
+use Rattle.run_turn.proofs.RunLaws.{between-any, going-starts, going-stops, going-on}
 use Rattle.lexer.proofs.ItemLaws.{behind}
 use native.Mathlib.Omega.{arith}
 use borrow.Author.Needs.{needs}

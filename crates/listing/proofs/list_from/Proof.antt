@@ -4,10 +4,10 @@ use native.Mathlib.Omega.{arith}
 use lib.Seq.{length-take-le}
 use Rattle.definition.specs.Utf8.{encode, encode-all}
 use Rattle.definition.specs.Tables.{cps}
-use Rattle.progress.proofs.Moves.{left}
-use Rattle.lines.proofs.LineLaws.{wrote-within}
-use Rattle.rounds.specs.Rounds.{Told}
-use Rattle.rounds.proofs.RunsOn.{Going, going-starts, going-on, round-fewer, round-wrote, round-few, ends-refused, ends-all}
+use Rattle.laws_progress.proofs.Moves.{left}
+use Rattle.listing_lines.proofs.LineLaws.{wrote-within}
+use Rattle.listing_lines.specs.Rounds.{Told}
+use Rattle.listing_lines.proofs.RunsOn.{Going, going-starts, going-on, round-fewer, round-wrote, round-few, ends-refused, ends-all}
 use borrow.Author.Needs.{needs}
 use Rattle.listing.proofs.list_from.Statement.{statement}
 use Rattle.listing.proofs.list_from.Tie as tie

@@ -1,7 +1,7 @@
 -- There is room for the lines of the run's items, and what is told of its answer and its records is told of its outcome.
 use Rattle.definition.specs.Utf8.{encode, encode-all}
 use Rattle.definition.specs.Tables.{cps}
-use Rattle.rounds.proofs.RunsOn.{round-is, round-room}
+use Rattle.listing_lines.proofs.RunsOn.{round-is, round-room}
 use borrow.Author.Needs.{needs}
 use Rattle.listing.proofs.run_once.Statement.{statement}
 use Rattle.listing.proofs.run_once.Tie as tie

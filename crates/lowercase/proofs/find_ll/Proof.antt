@@ -5,7 +5,7 @@ use mathlib.Core.Path.{sym, _∙_}
 use native.Mathlib.Omega.{arith}
 use borrow.Author.Needs.{needs}
 use Rattle.definition.specs.Lowercase.{ll-tbl}
-use Rattle.members.proofs.SearchLaws.{Narrowed, narrow-start, narrow-none, narrow-high, narrow-low, narrow-found}
+use Rattle.class_file.proofs.SearchLaws.{Narrowed, narrow-start, narrow-none, narrow-high, narrow-low, narrow-found}
 use Rattle.lowercase.proofs.LowercaseTable.{ll-ascends, ll-ranges-count, flat-first, flat-last}
 use Rattle.lowercase.proofs.find_ll.Statement.{statement}
 use Rattle.lowercase.proofs.find_ll.Tie as tie

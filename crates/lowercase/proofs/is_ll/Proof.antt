@@ -2,8 +2,8 @@
 use mathlib.Core.Path.{ap, _∙_}
 use borrow.Author.Needs.{needs}
 use Rattle.definition.specs.Lowercase.{is-ll}
-use Rattle.members.specs.Search.{is-found}
-use Rattle.members.proofs.SearchLaws.{found-in-ranges}
+use Rattle.class_file.specs.Search.{is-found}
+use Rattle.class_file.proofs.SearchLaws.{found-in-ranges}
 use Rattle.lowercase.proofs.BlockLaws.{bit-told}
 use Rattle.lowercase.proofs.is_ll.Statement.{statement}
 use Rattle.lowercase.proofs.is_ll.Tie as tie

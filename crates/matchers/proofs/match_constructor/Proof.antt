@@ -1,7 +1,7 @@
 -- `match_constructor` is the definition's `match-constructor`: a character that may begin a constructor, and the run behind it.
 use mathlib.Core.Path.{sym, _∙_}
 use Rattle.definition.specs.Matchers.{match-constructor}
-use Rattle.text.proofs.Character.{char-read, char-within}
+use Rattle.utf8.proofs.Character.{char-read, char-within}
 use Rattle.matchers.proofs.NameLaws.{head-yes, head-no, head-other}
 use borrow.Author.Needs.{needs}
 use native.Mathlib.Omega.{arith}

@@ -1,7 +1,7 @@
 -- `match_ident` is the definition's `match-ident`: a character that may begin an identifier, and the run behind it.
 use mathlib.Core.Path.{sym, _∙_}
 use Rattle.definition.specs.Matchers.{match-ident}
-use Rattle.text.proofs.Character.{char-read, char-within}
+use Rattle.utf8.proofs.Character.{char-read, char-within}
 use Rattle.matchers.proofs.NameLaws.{head-yes, head-no, head-other}
 use borrow.Author.Needs.{needs}
 use native.Mathlib.Omega.{arith}

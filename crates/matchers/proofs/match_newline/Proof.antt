@@ -1,8 +1,8 @@
 -- `match_newline` is the definition's `match-newline`: an equation for each outcome.
 use mathlib.Core.Path.{sym, _∙_}
 use borrow.Author.Tests.{not-true, not-false}
-use Rattle.text.proofs.Character.{char-read, char-within}
-use Rattle.peeks.proofs.ByteLaws.{has-inside}
+use Rattle.utf8.proofs.Character.{char-read, char-within}
+use Rattle.match_lit.proofs.ByteLaws.{has-inside}
 use Rattle.matchers.proofs.NameLaws.{newline-other, newline-no, newline-one, newline-two, newline-return}
 use borrow.Author.Needs.{needs}
 use native.Mathlib.Omega.{arith}

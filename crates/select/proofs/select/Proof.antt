@@ -1,9 +1,9 @@
 -- `select` is the definition's `select`: past the end nothing is chosen, a byte of ASCII is a character by itself, and what is decoded is beyond
 -- ASCII.
 use mathlib.Core.Path.{sym, subst, _∙_}
-use Rattle.text.proofs.Reading.{No-char}
-use Rattle.text.proofs.Character.{char-read, char-within}
-use Rattle.scan.proofs.RunLaws.{no-char}
+use Rattle.utf8.proofs.Reading.{No-char}
+use Rattle.utf8.proofs.Character.{char-read, char-within}
+use Rattle.star.proofs.RunLaws.{no-char}
 use Rattle.select.proofs.First.{select-none}
 use Rattle.select.proofs.BeyondAscii.{beyond-ascii}
 use Rattle.select.proofs.Standing.{no-char-past, ascii-stands, beyond-stands}

@@ -1,2 +1,0 @@
--- `Blanks` is the white space of ASCII.
-pub mod Blanks

@@ -1,2 +1,0 @@
-pub mod RanLaws
-pub mod BurstLaws

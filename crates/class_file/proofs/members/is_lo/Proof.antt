@@ -1,0 +1,15 @@
+-- `is_lo` meets its contract: the class is number 2 in the file's order.
+use borrow.Author.Needs.{needs}
+use Rattle.definition.specs.ClassFile.{is-lo}
+use Rattle.class_file.proofs.members.is_lo.Statement.{statement}
+use Rattle.class_file.proofs.members.is_lo.Tie as tie
+
+in-class-requires : tie.Need-in-class-requires
+in-class-requires c κs = search needs
+
+returns : tie.Need-returns
+unfolding is-lo
+returns c = c .in-class .ensures
+
+pub is-lo-spec : {M : Type 1} → statement M
+is-lo-spec = tie.close (tie.spec in-class-requires returns)

@@ -1,2 +1,0 @@
--- `Ends` is the first and the last code point of a range of a list.
-pub mod Ends

@@ -1,0 +1,104 @@
+// The tokens of a run that follow one another, each written from its ruling (module `puts`). Nearly all items are such tokens,
+// and what is handed from function to function for an item costs more than the token.
+//
+// Proved: behind the tokens what is still to come of the run is what was to come before them, whatever the file's name is (no
+// token that is written here has it in its payload: the contract asks with the empty name and promises for every one), and
+// what stands ahead there is said (`BurstsTo`). That as many tokens as possible are written is not promised: what is left, a turn writes.
+// Assumed: nothing but what `write_tokens`'s `requires` says: the run was not refused and stands between two items, and the
+// tables of operator and of symbol characters are lent.
+pub mod puts; // puts.rt: a token written from its ruling
+
+use crate::puts::Put;
+use crate::puts::put_ruling;
+use lookahead::Ahead;
+use lookahead::look;
+use position::columns::Stretch;
+use reader::Place;
+use rule_table::table::rule_of;
+use rules::gives_ruling;
+use rules::ruled;
+ghost use mathlib.Core.List.{[]};
+ghost use Rattle.select.specs.Standing.{Lent};
+ghost use Rattle.run_turn.specs.Running.{Between};
+ghost use Rattle.fast_path.specs.Bursts.{BurstsTo};
+
+// Behind a run's tokens: where the run stands, and what stands ahead, behind white space at `here`.
+pub struct Burst {
+    pub at: Place,
+    pub here: Place,
+    pub ahead: Ahead,
+    pub count: usize,
+    pub used: usize,
+}
+
+// Writes the tokens that stand one behind the other from `start` on, between comments, until something else stands ahead, a
+// token whose payload is no short one among it, or a buffer is full.
+pub fn write_tokens(
+    text: &[u8],
+    classes: &[u8],
+    ops: &[bool; 128],
+    symbols: &[bool; 128],
+    start: Place,
+    begun: usize,
+    filled: usize,
+    records: &mut [u32],
+    bytes: &mut [u8],
+) -> Burst
+    requires { ⌜ Between (now text) [] (now classes) start begun filled (now records) (now bytes) × Lent (now classes) (now ops) (now symbols) ⌝ }
+    ensures { λ r. ⌜ BurstsTo (now (text .entry)) (now (classes .entry)) start begun filled (now (records .entry)) (now (bytes .entry)) r (now (records .exit)) (now (bytes .exit)) ⌝ }
+{
+    let st = start.st;
+    if st.mode != 0 {
+        return Burst {
+            at: start,
+            here: start,
+            ahead: Ahead::Inside,
+            count: begun,
+            used: filled,
+        };
+    }
+    let mut at = start;
+    let mut count = begun;
+    let mut used = filled;
+    let mut plain = Stretch { from: 0, to: 0 };
+    loop {
+        let sight = look(text, classes, ops, symbols, at);
+        let here = sight.at;
+        let choice = sight.choice;
+        let rule = rule_of(choice.place);
+        if !gives_ruling(rule) {
+            return Burst {
+                at: at,
+                here: here,
+                ahead: Ahead::Chosen(choice),
+                count: count,
+                used: used,
+            };
+        }
+        let ruling = ruled(text, here, choice, rule);
+        match put_ruling(text, here, ruling, 16 * count, used, plain, records, bytes) {
+            Put::Left => {
+                return Burst {
+                    at: at,
+                    here: here,
+                    ahead: Ahead::Ruled {
+                        end: choice.end,
+                        ruling: ruling,
+                    },
+                    count: count,
+                    used: used,
+                };
+            }
+            Put::Token {
+                next,
+                used: more,
+                plain: ascii,
+            } => {
+                at = next;
+                used = more;
+                plain = ascii;
+                count += 1;
+            }
+        }
+    }
+}

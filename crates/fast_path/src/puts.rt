@@ -1,0 +1,169 @@
+// A token written from its ruling, where it is found, without an item being made of it.
+//
+// Proved: a ruling is left, and both buffers are what they were, or it is a token and is written as the definition's item is:
+// its record with its columns, its payload, and the state behind it (specs/Puts.antt).
+// Assumed: nothing but what each function's `requires` says: the ruling can be carried out where the reader stands, and both
+// buffers are written up to where the next record and payload begin.
+use definition::Match;
+use definition::Pos;
+use payload_write::write_short;
+use position::Cache;
+use position::columns::Stretch;
+use position::stretches::columns;
+use position::stretches::stretch;
+use reader::Payload;
+use reader::Place;
+use reader::rulings::Ruling;
+use reader::short_length;
+use record::write_token;
+ghost use mathlib.Core.Path.{_≡_};
+ghost use Rattle.definition.specs.Basics.{Bytes};
+ghost use Rattle.definition.specs.Item.{words};
+ghost use Rattle.definition.specs.Run.{put};
+ghost use Rattle.reader.specs.Described.{bytes-of};
+ghost use Rattle.record.specs.Numbers.{plain-item};
+ghost use Rattle.reader.specs.declared.rulings.Ruling.the-variants.{Token};
+ghost use Rattle.fast_path.specs.Puts.{PairFits, TokenAsks, RulingAsks, Puts};
+
+// What became of a ruling: it was left, or it was a token and is written, behind which reading goes on with so many payload
+// bytes used and with a stretch of the text that is known to be ASCII.
+pub enum Put {
+    Left,
+    Token {
+        next: Place,
+        used: usize,
+        plain: Stretch,
+    },
+}
+
+// Writes a token's payload from byte `used` on, and its record from number `first` on.
+fn write_pair(
+    text: &[u8],
+    kind: u32,
+    sp: Pos,
+    ep: Pos,
+    comments: u32,
+    payload: Payload,
+    size: usize,
+    first: usize,
+    used: usize,
+    records: &mut [u32],
+    bytes: &mut [u8],
+)
+    requires { ⌜ PairFits (now text) payload size first used (now records) (now bytes) ⌝ }
+    ensures { λ r. ⌜ (now (records .exit) ≡ put (now (records .entry)) first (words (plain-item kind sp ep size comments) used)) × ((name f : Bytes) → now (bytes .exit) ≡ put (now (bytes .entry)) used (bytes-of (now (text .entry)) name f payload)) ⌝ }
+{
+    write_short(text, payload, size, &mut bytes[used..]);
+    write_token(
+        kind,
+        sp,
+        ep,
+        size as u32,
+        comments,
+        used as u32,
+        &mut records[first..],
+    );
+}
+
+// Writes a token from byte `from` up to byte `to`, if its record and its payload fit and its payload is a short one.
+fn put_token(
+    text: &[u8],
+    here: Place,
+    kind: u32,
+    from: usize,
+    to: usize,
+    payload: Payload,
+    first: usize,
+    used: usize,
+    plain: Stretch,
+    records: &mut [u32],
+    bytes: &mut [u8],
+) -> Put
+    requires { ⌜ TokenAsks (now text) here from to payload first used plain (now records) (now bytes) ⌝ }
+    ensures { λ r. ⌜ Puts (now (text .entry)) here (Token kind from to payload) first used (now (records .entry)) (now (bytes .entry)) r (now (records .exit)) (now (bytes .exit)) ⌝ }
+{
+    if records.len() - first < 16 {
+        return Put::Left;
+    }
+    let Match::To(size) = short_length(payload) else {
+        return Put::Left;
+    };
+    if bytes.len() - used < size {
+        return Put::Left;
+    }
+    let st = here.st;
+    let known = here.known;
+    let ascii = stretch(text, known, plain, to);
+    let cols = columns(text, st, known, ascii, from as u32, to as u32);
+    let sp = Pos {
+        line: st.line,
+        col: cols.start,
+    };
+    let ep = Pos {
+        line: st.line,
+        col: cols.end,
+    };
+    write_pair(
+        text,
+        kind,
+        sp,
+        ep,
+        st.comments,
+        payload,
+        size,
+        first,
+        used,
+        records,
+        bytes,
+    );
+    let behind = Cache {
+        off: to as u32,
+        col: cols.end,
+    };
+    Put::Token {
+        next: Place {
+            st: st.advance(to as u32),
+            known: behind,
+        },
+        used: used + size,
+        plain: ascii,
+    }
+}
+
+// Writes what a ruling says, if it says a token and that fits.
+pub fn put_ruling(
+    text: &[u8],
+    here: Place,
+    ruling: Ruling,
+    first: usize,
+    used: usize,
+    plain: Stretch,
+    records: &mut [u32],
+    bytes: &mut [u8],
+) -> Put
+    requires { ⌜ RulingAsks (now text) here ruling first used plain (now records) (now bytes) ⌝ }
+    ensures { λ r. ⌜ Puts (now (text .entry)) here ruling first used (now (records .entry)) (now (bytes .entry)) r (now (records .exit)) (now (bytes .exit)) ⌝ }
+{
+    let Ruling::Token {
+        kind,
+        from: begin,
+        end: behind,
+        payload,
+    } = ruling
+    else {
+        return Put::Left;
+    };
+    put_token(
+        text,
+        here,
+        kind,
+        begin,
+        behind,
+        payload,
+        first,
+        used,
+        plain,
+        records,
+        bytes,
+    )
+}

@@ -1,3 +1,0 @@
-pub mod CopyLaws
-pub mod PutLaws
-pub mod WriteLaws

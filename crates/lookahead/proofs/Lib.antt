@@ -1,0 +1,3 @@
+pub mod SightLaws
+pub mod TurnLaws
+pub mod WhiteLaws

@@ -1,3 +1,0 @@
-pub mod Chains
-pub mod Finds
-pub mod Lengths

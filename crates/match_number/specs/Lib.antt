@@ -1,0 +1,3 @@
+-- `IntegerParts`: parts of the definition's matchers that have a function of their own.
+pub mod IntegerParts
+pub mod FloatParts

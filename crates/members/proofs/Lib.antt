@@ -1,2 +1,0 @@
--- What belongs to no one function. `SearchLaws`: the search among ascending ranges.
-pub mod SearchLaws

@@ -1,2 +1,0 @@
--- `Search` is what the search among ranges answers.
-pub mod Search

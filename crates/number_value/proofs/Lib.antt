@@ -1,0 +1,3 @@
+pub mod Values
+pub mod Stripping
+pub mod Digits

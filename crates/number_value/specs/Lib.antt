@@ -1,0 +1,2 @@
+pub mod NumeralContracts
+pub mod CleaningContracts

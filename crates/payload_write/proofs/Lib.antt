@@ -1,0 +1,5 @@
+pub mod Parts
+pub mod Short
+pub mod CopyLaws
+pub mod PutLaws
+pub mod WriteLaws

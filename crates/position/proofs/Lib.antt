@@ -1,0 +1,4 @@
+pub mod Counting
+pub mod Lent
+pub mod Weights
+pub mod Ascii

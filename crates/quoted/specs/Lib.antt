@@ -1,2 +1,0 @@
--- `Parts`: parts of the definition's matchers that have a function of their own.
-pub mod Parts

@@ -1,0 +1,71 @@
+-- The blob's positions are asked for one behind the other.
+use Rattle.laws_run.proofs.Moving.{stands-within}
+use Rattle.reader.proofs.Standing.{asks, asks-here, stays}
+use Rattle.read_blob.proofs.ClosedLaws.{closed-reads}
+use native.Mathlib.Omega.{arith}
+use borrow.Author.Needs.{needs}
+use Rattle.read_blob.proofs.closed.Statement.{statement}
+use Rattle.read_blob.proofs.closed.Tie as tie
+
+pos-of-requires : tie.Need-pos-of-requires
+pos-of-requires c κs = asks-here (c .before .before .before .pre .0 .standing)
+
+cast-pos-of : tie.Need-cast-pos-of
+cast-pos-of c =
+    let n = c .before .before .before .before .pre .1 in
+    omega (arith, stands-within n, n .short)
+
+pos-of-requires-2 : tie.Need-pos-of-requires-2
+pos-of-requires-2 c κs =
+    let p = c .before .before .before .before .pre in
+    asks (stays _ (p .0 .standing) (c .pos-of .ensures)) _ (p .1 .sound .order) (stands-within (p .1))
+
+cast-i : tie.Need-cast-i
+cast-i c = search needs
+
+span-requires : tie.Need-span-requires
+span-requires c κs = search needs
+
+cast-advance : tie.Need-cast-advance
+cast-advance c = search needs
+
+kind-of-requires : tie.Need-kind-of-requires
+kind-of-requires c κs = search needs
+
+span-requires-2 : tie.Need-span-requires-2
+span-requires-2 c κs = search needs
+
+cast-t22 : tie.Need-cast-t22
+cast-t22 c = search needs
+
+cast-advance-2 : tie.Need-cast-advance-2
+cast-advance-2 c =
+    let n = c .before .before .before .before .before .before .before .before .before .before .before .before .before .before .pre .1 in
+    omega (arith, stands-within n, n .short)
+
+advance-requires : tie.Need-advance-requires
+advance-requires c κs = search needs
+
+returns : tie.Need-returns
+returns c =
+    let g = c .before .before .before .before .before .before .before .before .before .before .before .before .before .before .before in
+    let b = c .before .before .before in
+    let d = b .before .before .before .before .before .before .before in
+    closed-reads _ _ (g .args .lang) _ _ _ (g .pre .0) (g .pre .1) _ _ _ _ _ _ (d .before .pos-of .ensures) (d .pos-of2 .ensures) (c .before .before .kind-of .ensures) (c .before .span2 .ensures) (b .span .ensures) (c .advance .ensures)
+
+pub closed-spec : {M : Type 1} → statement M
+closed-spec =
+    tie.close
+    (tie.spec
+    pos-of-requires
+    cast-pos-of
+    pos-of-requires-2
+    cast-i
+    span-requires
+    cast-advance
+    kind-of-requires
+    span-requires-2
+    cast-t22
+    cast-advance-2
+    advance-requires
+    returns)

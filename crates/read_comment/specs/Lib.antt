@@ -1,0 +1,2 @@
+pub mod CommentContracts
+pub mod LineCommentContracts

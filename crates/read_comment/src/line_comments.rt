@@ -1,0 +1,62 @@
+// A line's comment: the source's `line_comment`.
+//
+// Proved: what `line_comment` reads is what the definition's gives: the item, a payload that describes its bytes, the state,
+// and a column that is known there.
+// Assumed: nothing but what its `requires` says: a reader stands in a sound state of a legal text, no earlier than where the
+// comment began.
+// Cost: a comment is read once.
+use definition::Extra;
+use definition::Item;
+use definition::State;
+use position::pos_of;
+use reader::Payload;
+use reader::Place;
+use reader::Read;
+use reader::span;
+use star::stops::run_end;
+ghost use mathlib.Core.Path.{_≡_};
+ghost use Prim.Native.Nat.{_<_};
+ghost use Rattle.definition.specs.Text.{lexeme};
+ghost use Rattle.definition.specs.State.{one-more-comment};
+ghost use Rattle.definition.specs.Comment.{line-comment};
+ghost use Rattle.read_comment.specs.LineCommentContracts.{Behind, ReadsAny};
+
+// A comment was read.
+fn one_more_comment(mut st: State) -> State
+    requires { ⌜ st .comments < 4294967295 ⌝ }
+    ensures { λ r. ⌜ r ≡ one-more-comment st ⌝ }
+{
+    st.comments += 1;
+    st
+}
+
+// The rest of the line from where the reader stands, and before it the bytes from `from` up to there.
+pub fn line_comment(text: &[u8], from: usize, at: Place) -> Read
+    requires { ⌜ Behind (now text) from at ⌝ }
+    ensures { λ r. ⌜ ReadsAny (now (text .entry)) (line-comment (now (text .entry)) (lexeme (now (text .entry)) from (at .st .offset)) (at .st)) r ⌝ }
+{
+    let st = at.st;
+    let known = at.known;
+    let to = run_end(text, b'\n', b'\n', st.offset as usize);
+    let start = pos_of(text, st, known, st.offset);
+    let end = pos_of(text, st, start.known, to as u32);
+    let next = one_more_comment(st.advance(to as u32));
+    let sp = start.pos;
+    let ep = end.pos;
+    let item = Item {
+        kind: 0,
+        sp: sp,
+        ep: ep,
+        length: span(from, to) as u32,
+        comments: next.comments,
+        extra: Extra::Comment(true),
+    };
+    let payload = Payload::Part { from: from, to: to };
+    let column = end.known;
+    Read {
+        item: item,
+        payload: payload,
+        next: next,
+        known: column,
+    }
+}

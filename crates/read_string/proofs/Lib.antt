@@ -1,0 +1,9 @@
+pub mod TurnLaws
+pub mod LiteralLaws
+pub mod Growth
+pub mod HeldLaws
+pub mod ReadLaws
+pub mod LoopLaws
+pub mod MoveLaws
+pub mod EscapeLaws
+pub mod Goes

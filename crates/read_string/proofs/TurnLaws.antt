@@ -1,0 +1,32 @@
+-- A turn does what stands at the state's offset asks for. Rests on nothing but the definition.
+use mathlib.Core.Path.{_≡_}
+use lib.Dec.{ltb, leb}
+use lib.ListN.{length}
+use Rattle.definition.specs.Basics.{Bytes, ch}
+use Rattle.definition.specs.Text.{byte-is}
+use Rattle.definition.specs.Matchers.{match-newline, match-escape}
+use Rattle.definition.specs.Escapes.{unescape, is-surrogate}
+use Rattle.definition.specs.Comment.{run-end}
+use Rattle.definition.specs.Strings.{string-stop, escape-turn, string-turn}
+use Rattle.definition.specs.declared.Pos.{Pos}
+use Rattle.definition.specs.declared.State.{State}
+use Rattle.lemmas.proofs.Cases.{by-found, by-outcome}
+use Rattle.read_string.specs.Moves.{escape-move, last-move, stop-move, broken-line, string-move}
+use Rattle.read_string.specs.Literal.{does}
+
+-- The turn, case by case.
+pub turn-does : (s f : Bytes) (sp : Pos) (st : State) (acc : Bytes) → string-turn s f sp (st, acc) ≡ does s sp st acc (string-move s f (st .offset))
+unfolding string-move stop-move escape-move last-move escape-turn
+turn-does s f sp st acc =
+    let i = st .offset in
+    by-outcome (ltb i (run-end string-stop s i)) (λ t. rw (string-turn, string-move, t)) λ t.
+    by-found (broken-line s i) (λ nl b. rw (string-turn, string-move, t, b)) λ b.
+    by-found (match-newline s i) (λ nl n. rw (string-turn, string-move, stop-move, t, b, n)) λ n.
+    by-found (match-escape s i)
+    (λ e q. by-outcome (is-surrogate (unescape s i))
+    (λ u. rw (string-turn, string-move, stop-move, t, b, n, q, escape-turn, escape-move, u))
+    (λ u. rw (string-turn, string-move, stop-move, t, b, n, q, escape-turn, escape-move, u))) λ q.
+    by-outcome (byte-is (ch "\"") s i) (λ c. rw (string-turn, string-move, stop-move, t, b, n, q, last-move, c)) λ c.
+    by-outcome (leb (length s) i)
+    (λ l. rw (string-turn, string-move, stop-move, t, b, n, q, last-move, c, l))
+    (λ l. rw (string-turn, string-move, stop-move, t, b, n, q, last-move, c, l))

@@ -1,0 +1,4 @@
+pub mod Literal
+pub mod Contracts
+pub mod Moves
+pub mod Ends

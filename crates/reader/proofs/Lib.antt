@@ -1,0 +1,9 @@
+pub mod Standing
+pub mod DescribedBuilding
+pub mod Turning
+pub mod Describing
+pub mod Short
+pub mod Parts
+pub mod Spanning
+pub mod RulingBuilding
+pub mod RulingLaws

@@ -1,0 +1,23 @@
+-- The state is the definition's new line behind what was read.
+use borrow.Author.Needs.{needs}
+use Rattle.reader.proofs.places.next_line.Statement.{statement}
+use Rattle.reader.proofs.places.next_line.Tie as tie
+
+cast-advance : tie.Need-cast-advance
+cast-advance c = search needs
+
+advance-requires : tie.Need-advance-requires
+advance-requires c κs = search needs
+
+cast-t6 : tie.Need-cast-t6
+cast-t6 c = search needs
+
+new-line-requires : tie.Need-new-line-requires
+new-line-requires c κs = rw (c .advance .ensures) (c .before .before .pre .1)
+
+returns : tie.Need-returns
+returns c = rw (c .new-line .ensures, c .before .advance .ensures)
+
+pub next-line-spec : {M : Type 1} → statement M
+next-line-spec =
+    tie.close (tie.spec cast-advance advance-requires cast-t6 new-line-requires returns)

@@ -1,0 +1,4 @@
+pub mod Described
+pub mod Standing
+pub mod Places
+pub mod Rulings

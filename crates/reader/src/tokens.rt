@@ -1,0 +1,111 @@
+// Tokens and errors as readers answer them.
+use crate::Payload;
+use crate::Read;
+use crate::length_of;
+use definition::Extra;
+use definition::Item;
+use definition::Pos;
+use definition::State;
+use position::Cache;
+use position::pos_of;
+ghost use mathlib.Core.Path.{_≡_};
+ghost use mathlib.Core.List.{[]};
+ghost use Rattle.definition.specs.Basics.{Bytes};
+ghost use Rattle.definition.specs.Position.{cur-pos};
+ghost use Rattle.definition.specs.State.{ended};
+ghost use Rattle.definition.specs.Item.{tok, lex-error};
+ghost use Rattle.reader.specs.Described.{Describes, Known-at, Sized, Reads};
+ghost use Rattle.reader.specs.Standing.{Standing};
+
+const ERROR: u32 = 173;
+
+// The source's `tok`: a token with the state after it, and a column that is known there.
+pub fn token(
+    name: &[u8],
+    kind: u32,
+    payload: Payload,
+    sp: Pos,
+    ep: Pos,
+    extra: Extra,
+    next: State,
+    known: Cache,
+) -> Read
+    requires { ⌜ Sized (now name) payload ⌝ }
+    ensures { λ r. ⌜ ((s f bytes : Bytes) → Describes s (now (name .entry)) f payload bytes → Known-at s next known → Reads s (now (name .entry)) f (tok kind bytes sp ep extra next) r) ⌝ }
+{
+    let length = length_of(name, payload) as u32;
+    let item = Item {
+        kind: kind,
+        sp: sp,
+        ep: ep,
+        length: length,
+        comments: next.comments,
+        extra: extra,
+    };
+    Read {
+        item: item,
+        payload: payload,
+        next: next,
+        known: known,
+    }
+}
+
+// The state when the reading has ended.
+pub fn ended(st: State) -> State
+    ensures { λ r. ⌜ r ≡ ended st ⌝ }
+{
+    let mut next = st;
+    next.mode = 2;
+    next
+}
+
+// The source's `lex_error` and ERROR token, where reading stopped.
+pub fn lex_error(
+    text: &[u8],
+    name: &[u8],
+    st: State,
+    known: Cache,
+    number: u32,
+    payload: Payload,
+    from: Pos,
+    to: Pos,
+) -> Read
+    requires { ⌜ Standing (now text) st known × Sized (now name) payload ⌝ }
+    ensures { λ r. ⌜ ((f bytes : Bytes) → Describes (now (text .entry)) (now (name .entry)) f payload bytes → Reads (now (text .entry)) (now (name .entry)) f (lex-error (now (text .entry)) st number bytes from to) r) ⌝ }
+{
+    let here = pos_of(text, st, known, st.offset);
+    let extra = Extra::LexError {
+        number: number,
+        from: from,
+        to: to,
+    };
+    token(
+        name,
+        ERROR,
+        payload,
+        here.pos,
+        here.pos,
+        extra,
+        ended(st),
+        here.known,
+    )
+}
+
+// An error without a payload, at the place where reading stopped.
+pub fn error_here(text: &[u8], name: &[u8], st: State, known: Cache, number: u32) -> Read
+    requires { ⌜ Standing (now text) st known ⌝ }
+    ensures { λ r. ⌜ ((f : Bytes) → Reads (now (text .entry)) (now (name .entry)) f (lex-error (now (text .entry)) st number [] (cur-pos (now (text .entry)) st) (cur-pos (now (text .entry)) st)) r) ⌝ }
+{
+    let here = pos_of(text, st, known, st.offset);
+    let nothing = Payload::Part { from: 0, to: 0 };
+    lex_error(
+        text,
+        name,
+        st,
+        here.known,
+        number,
+        nothing,
+        here.pos,
+        here.pos,
+    )
+}

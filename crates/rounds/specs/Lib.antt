@@ -1,2 +1,0 @@
--- What the listing's functions promise and ask for.
-pub mod Rounds

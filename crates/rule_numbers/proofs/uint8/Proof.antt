@@ -1,0 +1,44 @@
+-- The cleaned part says whether the number is too big.
+use Rattle.definition.specs.Kinds.{kind, kind-names, number-from}
+use Rattle.rule_numbers.proofs.Cleaning.{big-rules, uint8-rules}
+use borrow.Author.Needs.{needs}
+use Rattle.rule_numbers.proofs.uint8.Statement.{statement}
+use Rattle.rule_numbers.proofs.uint8.Tie as tie
+
+cast-i : tie.Need-cast-i
+cast-i c = search needs
+
+cleaned-requires : tie.Need-cleaned-requires
+cleaned-requires c κs = search needs
+
+sub-above-255 : tie.Need-sub-above-255
+sub-above-255 c = search needs
+
+part-above-255-start : tie.Need-part-above-255-start
+part-above-255-start c = search needs
+
+part-above-255-end : tie.Need-part-above-255-end
+part-above-255-end c = search needs
+
+above-255-requires : tie.Need-above-255-requires
+above-255-requires c κs = search needs
+
+returns : tie.Need-returns
+returns c = λ name. big-rules (c .before .before .before .before .before .before .before .pre) name _ (c .before .before .before .cleaned .ensures) _ (c .before .above-255 .ensures) (c .if1 .taken)
+
+returns-2 : tie.Need-returns-2
+unfolding kind kind-names number-from
+returns-2 c = λ name. uint8-rules (c .before .before .before .before .before .before .before .pre) name _ (c .before .before .before .cleaned .ensures) _ (c .before .above-255 .ensures) (c .if1 .left)
+
+pub uint8-spec : {M : Type 1} → statement M
+uint8-spec =
+    tie.close
+    (tie.spec
+    cast-i
+    cleaned-requires
+    sub-above-255
+    part-above-255-start
+    part-above-255-end
+    above-255-requires
+    returns
+    returns-2)

@@ -1,0 +1,2 @@
+pub mod ReadOn
+pub mod Characters

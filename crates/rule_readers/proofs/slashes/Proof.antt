@@ -1,0 +1,20 @@
+-- The comment's text begins with the slashes.
+use Rattle.rule_readers.proofs.ReadOn.{behind-slashes, slashes-read}
+use borrow.Author.Needs.{needs}
+use Rattle.rule_readers.proofs.slashes.Statement.{statement}
+use Rattle.rule_readers.proofs.slashes.Tie as tie
+
+cast-line-comment : tie.Need-cast-line-comment
+cast-line-comment c = search needs
+
+moved-requires : tie.Need-moved-requires
+moved-requires c κs = search needs
+
+line-comment-requires : tie.Need-line-comment-requires
+line-comment-requires c κs = behind-slashes (c .before .before .before .before .pre) (c .moved .ensures)
+
+returns : tie.Need-returns
+returns c = slashes-read (c .before .before .before .before .before .pre) (c .before .moved .ensures) (c .line-comment .ensures)
+
+pub slashes-spec : {M : Type 1} → statement M
+slashes-spec = tie.close (tie.spec cast-line-comment moved-requires line-comment-requires returns)

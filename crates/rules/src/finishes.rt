@@ -1,0 +1,92 @@
+// What is read of a choice that is read whole: a ruling is carried out.
+//
+// Proved: each function reads what the definition gives (crates/definition/specs/Token.antt): item, payload and state. Most
+// tokens are written straight from their rulings (crate `fast_path`); what is left of them, with errors and line comments, one
+// `finish` carries out. Characters, which alone have a code point besides, are made by themselves (crate
+// `rule_readers`).
+// Assumed: nothing but what each function's `requires` says: a reader stands in a sound state of a legal text, the choice
+// ends behind it (`Chose`), and the ruling fits the text (`Fits`).
+use definition::Extra;
+use position::pos_of;
+use read_comment::line_comments::line_comment;
+use reader::Payload;
+use reader::Place;
+use reader::Read;
+use reader::rulings::Ruling;
+use reader::tokens::lex_error;
+use reader::tokens::token;
+ghost use Rattle.definition.specs.Basics.{Bytes};
+ghost use Rattle.definition.specs.Position.{pos-of, cur-pos};
+ghost use Rattle.definition.specs.Item.{lex-error};
+ghost use Rattle.definition.specs.declared.Extra.the-variants.{NoExtra};
+ghost use Rattle.reader.specs.Described.{Describes, Sized, Reads};
+ghost use Rattle.reader.specs.Rulings.{spanned, Chose, Spans, ruling-step, Fits};
+
+// A token from byte i up to byte e, with the state behind it.
+fn finish_from(
+    text: &[u8],
+    name: &[u8],
+    at: Place,
+    i: usize,
+    e: usize,
+    kind: u32,
+    payload: Payload,
+) -> Read
+    requires { ⌜ Spans (now text) (now name) at i e payload ⌝ }
+    ensures { λ r. ⌜ ((f bytes : Bytes) → Describes (now (text .entry)) (now (name .entry)) f payload bytes → Reads (now (text .entry)) (now (name .entry)) f (spanned (now (text .entry)) (at .st) i e kind bytes NoExtra) r) ⌝ }
+{
+    let st = at.st;
+    let known = at.known;
+    let start = pos_of(text, st, known, i as u32);
+    let end = pos_of(text, st, start.known, e as u32);
+    let next = st.advance(e as u32);
+    token(
+        name,
+        kind,
+        payload,
+        start.pos,
+        end.pos,
+        Extra::NoExtra,
+        next,
+        end.known,
+    )
+}
+
+// An error over what was chosen, up to byte e.
+fn error_over(text: &[u8], name: &[u8], at: Place, e: usize, number: u32, payload: Payload) -> Read
+    requires { ⌜ Chose (now text) at e × Sized (now name) payload ⌝ }
+    ensures { λ r. ⌜ ((f bytes : Bytes) → Describes (now (text .entry)) (now (name .entry)) f payload bytes → Reads (now (text .entry)) (now (name .entry)) f (lex-error (now (text .entry)) (at .st) number bytes (cur-pos (now (text .entry)) (at .st)) (pos-of (now (text .entry)) (at .st) e)) r) ⌝ }
+{
+    let st = at.st;
+    let known = at.known;
+    let first = pos_of(text, st, known, st.offset);
+    let last = pos_of(text, st, first.known, e as u32);
+    lex_error(
+        text,
+        name,
+        st,
+        last.known,
+        number,
+        payload,
+        first.pos,
+        last.pos,
+    )
+}
+
+// What is read by a ruling on a choice that ends at e.
+pub fn finish(text: &[u8], name: &[u8], at: Place, e: usize, ruling: Ruling) -> Read
+    requires { ⌜ Chose (now text) at e × Fits (now text) (now name) at ruling ⌝ }
+    ensures { λ r. ⌜ ((f : Bytes) → Reads (now (text .entry)) (now (name .entry)) f (ruling-step (now (text .entry)) (now (name .entry)) f (at .st) e ruling) r) ⌝ }
+{
+    let st = at.st;
+    match ruling {
+        Ruling::Token {
+            kind,
+            from,
+            end,
+            payload,
+        } => finish_from(text, name, at, from, end, kind, payload),
+        Ruling::Error { number, payload } => error_over(text, name, at, e, number, payload),
+        Ruling::LineComment => line_comment(text, st.offset as usize, at),
+    }
+}

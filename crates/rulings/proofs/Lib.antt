@@ -1,4 +1,0 @@
-pub mod Parts
-pub mod Spanning
-pub mod Building
-pub mod RulingLaws

@@ -1,0 +1,30 @@
+-- `lit_then_symbols` is a run of symbol characters behind a word.
+use mathlib.Core.Path.{sym, ap, _∙_}
+use Rattle.select_places.proofs.Chains.{then-yes, then-no}
+use Rattle.definition.specs.declared.Match.the-variants.{To}
+use borrow.Author.Needs.{needs}
+use Rattle.select_operators.proofs.lit_then_symbols.Statement.{statement}
+use Rattle.select_operators.proofs.lit_then_symbols.Tie as tie
+
+match-lit-requires : tie.Need-match-lit-requires
+match-lit-requires c κs = search needs
+
+enum-known-e : tie.Need-enum-known-e
+enum-known-e c = search needs
+
+enum-told : tie.Need-enum-told
+enum-told c = search needs
+
+returns : tie.Need-returns
+returns c = then-no _ (sym (c .before .before .match-lit .ensures) ∙ c .enum-told .given .1)
+
+star-symbolchar-requires : tie.Need-star-symbolchar-requires
+star-symbolchar-requires c κs = search needs
+
+returns-2 : tie.Need-returns-2
+returns-2 c = then-yes _ (sym (c .before .before .before .before .match-lit .ensures) ∙ c .before .before .e .given .1) (ap To (c .star-symbolchar .ensures))
+
+pub lit-then-symbols-spec : {M : Type 1} → statement M
+lit-then-symbols-spec =
+    tie.close
+    (tie.spec match-lit-requires enum-known-e enum-told returns star-symbolchar-requires returns-2)

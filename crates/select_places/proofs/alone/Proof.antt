@@ -1,0 +1,18 @@
+-- `alone` is the choice of a place after none.
+use mathlib.Core.Path.{refl}
+use Rattle.select_places.proofs.Chains.{kept}
+use borrow.Author.Needs.{needs}
+use Rattle.select_places.proofs.alone.Statement.{statement}
+use Rattle.select_places.proofs.alone.Tie as tie
+
+nothing-requires : tie.Need-nothing-requires
+nothing-requires c κs = search needs
+
+try-place-requires : tie.Need-try-place-requires
+try-place-requires c κs = search needs
+
+returns : tie.Need-returns
+returns c = kept (c .try-place .ensures) (c .before .nothing .ensures) refl
+
+pub alone-spec : {M : Type 1} → statement M
+alone-spec = tie.close (tie.spec nothing-requires try-place-requires returns)

@@ -1,0 +1,3 @@
+-- `Blanks` is the white space of ASCII.
+pub mod Blanks
+pub mod Stops

@@ -1,3 +1,0 @@
-pub mod MoveLaws
-pub mod EscapeLaws
-pub mod Goes

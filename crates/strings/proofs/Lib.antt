@@ -1,6 +1,0 @@
-pub mod TurnLaws
-pub mod LiteralLaws
-pub mod Growth
-pub mod HeldLaws
-pub mod ReadLaws
-pub mod LoopLaws

@@ -1,0 +1,23 @@
+-- `early_byte` reads the rows of the definition's early literals: the code's rows are those that its table gives.
+use mathlib.Core.Path.{refl}
+use Rattle.definition.specs.Utf8.{encode, encode-all}
+use Rattle.definition.specs.Tables.{cps, early-literals}
+use borrow.Author.Needs.{needs}
+use Rattle.table_early.proofs.early_byte.Statement.{statement}
+use Rattle.table_early.proofs.early_byte.Tie as tie
+
+mul-result : tie.Need-mul-result
+mul-result c = search needs
+
+index-1-result : tie.Need-index-1-result
+index-1-result c = search needs
+
+index-2-result : tie.Need-index-2-result
+index-2-result c = search needs
+
+returns : tie.Need-returns
+unfolding early-literals cps encode-all encode
+returns c = refl
+
+pub early-byte-spec : {M : Type 1} → statement M
+early-byte-spec = tie.close (tie.spec mul-result index-1-result index-2-result returns)

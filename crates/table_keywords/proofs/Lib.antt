@@ -1,0 +1,5 @@
+pub mod Chains
+pub mod Finds
+pub mod LookupLengths
+pub mod LengthLaws
+pub mod Prefix

@@ -1,0 +1,40 @@
+-- The first word of the table with the lexeme's key is where the search begins; what it seeks among is the table.
+use native.Mathlib.Omega.{arith}
+use Prim.Native.Nat.{_<_}
+use mathlib.Core.Path.{refl, _∙_}
+use Rattle.definition.specs.Utf8.{encode, encode-all}
+use Rattle.definition.specs.Tables.{cps, keywords, constructors, uoperators}
+use Rattle.table_words.specs.Words.{words}
+use Rattle.table_keywords.specs.Places.{key, hop}
+use Rattle.table_keywords.proofs.Chains.{up-to-at, firsts, first-at, key-small, chain-begins, seek-table}
+use borrow.Author.Needs.{needs}
+use Rattle.table_keywords.proofs.uoperator.Statement.{statement}
+use Rattle.table_keywords.proofs.uoperator.Tie as tie
+
+key-requires : tie.Need-key-requires
+key-requires c κs = search needs
+
+array-read-follow : tie.Need-array-read-follow
+array-read-follow c =
+    let h : c .key .result < 64 = rw (c .key .ensures) (key-small _) in
+    omega arith
+
+cast-follow : tie.Need-cast-follow
+unfolding firsts words keywords constructors uoperators cps encode-all encode key hop
+cast-follow c = omega (arith, up-to-at 119 (firsts 89 0 64) refl (c .key .result))
+
+follow-requires : tie.Need-follow-requires
+unfolding firsts words keywords constructors uoperators cps encode-all encode key hop
+follow-requires c κs =
+    let id = c .before .before .args .id .now in
+    chain-begins id 89 119 _ (rw (c .key .ensures) (first-at 89 id)) (omega arith) (omega arith)
+
+returns : tie.Need-returns
+unfolding firsts words keywords constructors uoperators cps encode-all encode key hop
+returns c =
+    let id = c .before .before .before .args .id .now in
+    c .follow .ensures ∙ seek-table id 89 119 _ (rw (c .before .key .ensures) (first-at 89 id)) (omega arith) (omega arith)
+
+pub uoperator-spec : {M : Type 1} → statement M
+uoperator-spec =
+    tie.close (tie.spec key-requires array-read-follow cast-follow follow-requires returns)

@@ -1,0 +1,4 @@
+-- `Computed` is what is computed over the definition's table, `OperatorSearches` that what the search finds is what trying every word gives.
+pub mod Computed
+pub mod OperatorSearches
+pub mod MixfixSearches

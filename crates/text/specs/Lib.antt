@@ -1,2 +1,0 @@
--- `Chars`: the characters that are read from an offset on.
-pub mod Chars
