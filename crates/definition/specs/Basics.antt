@@ -1,4 +1,16 @@
 -- What the other files share: bytes, a choice by a test, a loop that ends, and characters written as they look.
+--
+-- How these files are read:
+--   f : A → B → C          f takes an A and a B and gives a C; `f a b` calls it; `λ x. e` is a function without a name
+--   f a b = e              what f gives; where several such lines stand, the first whose patterns fit
+--   abbrev, unfoldable     both begin a definition, and say only when the checker writes it out: always, or where it is asked to
+--   pub                    other files may name it
+--   elim x [ p ↦ e | q ↦ g ]   the arm whose pattern fits x; only that arm is computed
+--   let x = e in g         g, in which x stands for e
+--   (a, b, c), A × B × C   a tuple and its type; `.0`, `.1`, `.2` are its parts, and `.line` the part of that name of a struct
+--   a ∷ l, [], l ++ m      a list: its first element and the others, none, two one behind the other
+--   match-ident            a name: the source's `match_ident`; a `-` with blanks around it is the difference of two numbers, 0 at least
+--   a ≡ b                  a and b are equal, which is a type: what has it is a proof
 use Prim.Native.Nat.{ℕ, zero, suc}
 use Prim.Native.Char.{Char, code}
 use Prim.Native.String.{String, [] as no-chars, _∷_ as _then-chars_}

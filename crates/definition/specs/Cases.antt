@@ -1,5 +1,5 @@
--- The table of document 01's twelve lines marked (M): each text with the items that the line states. proofs/Cases.antt computes
--- that the definition gives them. Texts start at 1:0, with the class file of no ranges.
+-- The table of document 01's twelve lines marked (M): each text with the items that the line states; and two texts more.
+-- proofs/Cases.antt computes that the definition gives them. Texts start at 1:0, with the class file of no ranges.
 use Prim.Native.Nat.{ℕ}
 use Prim.Native.String.{String}
 use mathlib.Core.Bool.{Bool, true, false}
@@ -109,13 +109,20 @@ m-cases =
     -- ```f x``` on one line is IDENT `f x and then BACKTICK; a blob opens only when no such identifier is longer.
     ∷ ("```f x```", token "IDENT" 1 0 1 8 0 "`f x" ∷ token "BACKTICK" 1 8 1 9 0 "" ∷ eof 1 9 0 ∷ [])
     ∷ ("```f\nx```", a-blob 2 1 2 4 "f" 1 4 1 0 "\nx" ∷ eof 2 4 0 ∷ [])
-    -- besides, two of document 01's misreadings that no line above would show: columns count characters, and a keyword is a whole word.
-    ∷ ("αx 1", token "IDENT" 1 0 1 2 0 "αx" ∷ token "INT" 1 3 1 4 0 "1" ∷ eof 1 4 0 ∷ [])
+    ∷ []
+
+-- ---- two of document 01's misreadings that no such line would show: columns count characters, and a keyword is a whole word
+
+unfoldable pub misreading-cases : List Case
+misreading-cases =
+    ("αx 1", token "IDENT" 1 0 1 2 0 "αx" ∷ token "INT" 1 3 1 4 0 "1" ∷ eof 1 4 0 ∷ [])
     ∷ ("lets", token "IDENT" 1 0 1 4 0 "lets" ∷ eof 1 4 0 ∷ [])
     ∷ []
 
-abbrev pub texts : List Bytes
-texts = map (λ c. cps (c .0)) m-cases
+-- ---- the texts and the items of such a table
 
-abbrev pub expected : List (List Listed-item)
-expected = map (λ c. c .1) m-cases
+abbrev pub texts : List Case → List Bytes
+texts cases = map (λ c. cps (c .0)) cases
+
+abbrev pub expected : List Case → List (List Listed-item)
+expected cases = map (λ c. c .1) cases

@@ -1,3 +1,5 @@
+-- In reading order: the lexer; what "the longest part" means (Regex to Reading); words of each pattern; the definition computed on
+-- cases.
 pub mod Basics
 pub mod Utf8
 pub mod Text
@@ -19,11 +21,11 @@ pub mod Strings
 pub mod Blob
 pub mod Token
 pub mod Run
-pub mod Listed
 pub mod Regex
 pub mod Patterns
-pub mod Samples
 pub mod Longest
 pub mod Reading
+pub mod Samples
+pub mod Listed
 pub mod Cases
 pub mod Limits

@@ -11,7 +11,8 @@ use Rattle.definition.specs.Utf8.{encode-all}
 unfoldable pub cps : String → Bytes
 cps s = encode-all (codes s)
 
--- a word with the kind of its token and the token's text; of a keyword operator, with the plain kind and the kind before an operator
+-- a word with the kind of its token and the token's text; of a keyword operator, with the plain kind and the kind before an operator.
+-- Early literals have no text, and that of a mixfix word is the lexeme (Token), so that none stands here
 abbrev pub Entry : Type 0
 Entry = String × String × String
 
