@@ -88,56 +88,56 @@ symbols = many (chr is-symbolchar)
 
 unfoldable pub patterns : Bytes → List Re
 patterns f =
-    one-word early-literals -- 1 REarly
-    ∷ seq (text "```") (identifier f) -- 2 RTripleBacktick
-    ∷ seq (text "#lang-") (identifier f) -- 3 RLang
-    ∷ text "__SOURCE_FILE__" -- 4 RSourceFile
-    ∷ text "__LINE__" -- 5 RLine
-    ∷ text "__FILELINE__" -- 6 RFileLine
-    ∷ some (chr (is-anywhite f)) -- 7 RWhite
-    ∷ nl -- 8 RNewline
-    ∷ seq (text "'") (seq any-char (text "'")) -- 9 RCharLit
-    ∷ seq (text "'") (seq any-char (text "'B")) -- 10 RCharLitB
-    ∷ text "`" -- 11 RBacktick
-    ∷ seq (one-word kw-op-rules) (some (chr is-op-char)) -- 12 RKwOp
-    ∷ text ";;" -- 13 RSemiSemi
-    ∷ identifier f -- 14 RIdent
-    ∷ constructor f -- 15 RConstructor
-    ∷ any-integer -- 16 RInt
-    ∷ alt (usuffixed "y") (suffixed "z") -- 17 RUInt8
-    ∷ suffixed "y" -- 18 RNumber INT8
-    ∷ usuffixed "s" -- 19 RNumber UINT16
-    ∷ suffixed "s" -- 20 RNumber INT16
-    ∷ usuffixed "l" -- 21 RNumber UINT32
-    ∷ suffixed "l" -- 22 RNumber INT32
-    ∷ usuffixed "L" -- 23 RNumber UINT64
-    ∷ suffixed "L" -- 24 RNumber INT64
-    ∷ suffixed "sz" -- 25 RNumber SIZET
-    ∷ seq floatp (text "R") -- 26 RReal
-    ∷ seq (alt integer (alt xinteger (alt ieee64 xieee64))) (some (chr (is-ident-char f))) -- 27 RBadNumber
-    ∷ text "(*" -- 28 RCommentStart
-    ∷ text "// IN F*:" -- 29 RInFStar
-    ∷ text "//" -- 30 RLineComment
-    ∷ text "\"" -- 31 RString
-    ∷ seq (text "``") (seq (some (alt plain (seq (text "`") plain))) (text "``")) -- 32 RBacktickIdent
-    ∷ text "<|" -- 33 RPipeLeft
-    ∷ text "|>" -- 34 RPipeRight
-    ∷ text ".." -- 35 RDotDot
-    ∷ one-word op-tokens -- 36 ROpToken
-    ∷ text "<" -- 37 RLt
-    ∷ seq (text ">") symbols -- 38 RGt
-    ∷ seq (text "**") symbols -- 39 ROp OPINFIX3R
-    ∷ seq (text "|->") symbols -- 40 ROp OPINFIX4
-    ∷ seq (one-of "!~?") symbols -- 41 ROp OPPREFIX
-    ∷ seq (one-of "|") symbols -- 42 ROp OPINFIX0a
-    ∷ seq (one-of "&") symbols -- 43 ROp OPINFIX0b
-    ∷ seq (one-of "=<") symbols -- 44 ROp OPINFIX0c
-    ∷ seq (one-of "$") symbols -- 45 ROp OPINFIX0d
-    ∷ seq (one-of "@^") symbols -- 46 ROp OPINFIX1
-    ∷ seq (one-of "+-") symbols -- 47 ROp OPINFIX2
-    ∷ seq (one-of "*/%") symbols -- 48 ROp OPINFIX3L
-    ∷ chr (is-uoperator f) -- 49 RUOperator
-    ∷ one-word mixfix-rules -- 50 RMixfix
+    one-word early-literals  -- 1 REarly
+    ∷ seq (text "```") (identifier f)  -- 2 RTripleBacktick
+    ∷ seq (text "#lang-") (identifier f)  -- 3 RLang
+    ∷ text "__SOURCE_FILE__"  -- 4 RSourceFile
+    ∷ text "__LINE__"  -- 5 RLine
+    ∷ text "__FILELINE__"  -- 6 RFileLine
+    ∷ some (chr (is-anywhite f))  -- 7 RWhite
+    ∷ nl  -- 8 RNewline
+    ∷ seq (text "'") (seq any-char (text "'"))  -- 9 RCharLit
+    ∷ seq (text "'") (seq any-char (text "'B"))  -- 10 RCharLitB
+    ∷ text "`"  -- 11 RBacktick
+    ∷ seq (one-word kw-op-rules) (some (chr is-op-char))  -- 12 RKwOp
+    ∷ text ";;"  -- 13 RSemiSemi
+    ∷ identifier f  -- 14 RIdent
+    ∷ constructor f  -- 15 RConstructor
+    ∷ any-integer  -- 16 RInt
+    ∷ alt (usuffixed "y") (suffixed "z")  -- 17 RUInt8
+    ∷ suffixed "y"  -- 18 RNumber INT8
+    ∷ usuffixed "s"  -- 19 RNumber UINT16
+    ∷ suffixed "s"  -- 20 RNumber INT16
+    ∷ usuffixed "l"  -- 21 RNumber UINT32
+    ∷ suffixed "l"  -- 22 RNumber INT32
+    ∷ usuffixed "L"  -- 23 RNumber UINT64
+    ∷ suffixed "L"  -- 24 RNumber INT64
+    ∷ suffixed "sz"  -- 25 RNumber SIZET
+    ∷ seq floatp (text "R")  -- 26 RReal
+    ∷ seq (alt integer (alt xinteger (alt ieee64 xieee64))) (some (chr (is-ident-char f)))  -- 27 RBadNumber
+    ∷ text "(*"  -- 28 RCommentStart
+    ∷ text "// IN F*:"  -- 29 RInFStar
+    ∷ text "//"  -- 30 RLineComment
+    ∷ text "\""  -- 31 RString
+    ∷ seq (text "``") (seq (some (alt plain (seq (text "`") plain))) (text "``"))  -- 32 RBacktickIdent
+    ∷ text "<|"  -- 33 RPipeLeft
+    ∷ text "|>"  -- 34 RPipeRight
+    ∷ text ".."  -- 35 RDotDot
+    ∷ one-word op-tokens  -- 36 ROpToken
+    ∷ text "<"  -- 37 RLt
+    ∷ seq (text ">") symbols  -- 38 RGt
+    ∷ seq (text "**") symbols  -- 39 ROp OPINFIX3R
+    ∷ seq (text "|->") symbols  -- 40 ROp OPINFIX4
+    ∷ seq (one-of "!~?") symbols  -- 41 ROp OPPREFIX
+    ∷ seq (one-of "|") symbols  -- 42 ROp OPINFIX0a
+    ∷ seq (one-of "&") symbols  -- 43 ROp OPINFIX0b
+    ∷ seq (one-of "=<") symbols  -- 44 ROp OPINFIX0c
+    ∷ seq (one-of "$") symbols  -- 45 ROp OPINFIX0d
+    ∷ seq (one-of "@^") symbols  -- 46 ROp OPINFIX1
+    ∷ seq (one-of "+-") symbols  -- 47 ROp OPINFIX2
+    ∷ seq (one-of "*/%") symbols  -- 48 ROp OPINFIX3L
+    ∷ chr (is-uoperator f)  -- 49 RUOperator
+    ∷ one-word mixfix-rules  -- 50 RMixfix
     ∷ []
 
 -- the pattern of place k; a number that is no place has one that permits nothing

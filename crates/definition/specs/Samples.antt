@@ -1,5 +1,5 @@
 -- Samples of the patterns: for each place words of its language, one for each way that the pattern has of being met; of a table a
--- word or two stand for the others. Place 49 has no sample: its characters are those of the class file. That the samples are
+-- word or two stand for the others. Cursor 49 has no sample: its characters are those of the class file. That the samples are
 -- words of their languages is computed by derivatives.
 use Prim.Native.Nat.{ℕ}
 use Prim.Native.String.{String}

@@ -134,56 +134,56 @@ rules s name f =
     let fixed : String → Rule = λ k st e w. finish s st e (kind k) [] in
     let numbers : String → Rule = λ k st e w. number s st e k in
     let operators : String → Rule = λ k st e w. op s st e k in
-    (λ st e w. finish s st e (kind (entry early-literals w .1)) []) -- 1 REarly
-    ∷ (λ st e w. done (blob s (header s st e 3) (advance st e))) -- 2 RTripleBacktick
-    ∷ (λ st e w. done (use-lang s (header s st e 6) (advance st e))) -- 3 RLang
-    ∷ (λ st e w. finish s st e (kind "STRING") name) -- 4 RSourceFile
-    ∷ (λ st e w. finish s st e (kind "INT") (show (st .line))) -- 5 RLine
-    ∷ (λ st e w. finish s st e (kind "STRING") (name ++ (cps "(" ++ (show (st .line) ++ cps ")")))) -- 6 RFileLine
-    ∷ skip -- 7 RWhite
-    ∷ (λ st e w. again (new-line (advance st e))) -- 8 RNewline
-    ∷ (λ st e w. char-lit s st e) -- 9 RCharLit
-    ∷ (λ st e w. char-lit s st e) -- 10 RCharLitB
-    ∷ fixed "BACKTICK" -- 11 RBacktick
-    ∷ (λ st e w. kw-op s st e (entry kw-op-rules w)) -- 12 RKwOp
-    ∷ fixed "SEMICOLON_OP" -- 13 RSemiSemi
-    ∷ (λ st e w. ident s st e) -- 14 RIdent
-    ∷ (λ st e w. finish-word s st e constructors "NAME") -- 15 RConstructor
-    ∷ numbers "INT" -- 16 RInt
-    ∷ (λ st e w. uint8 s st e) -- 17 RUInt8
-    ∷ numbers "INT8" -- 18 RNumber INT8
-    ∷ numbers "UINT16" -- 19 RNumber UINT16
-    ∷ numbers "INT16" -- 20 RNumber INT16
-    ∷ numbers "UINT32" -- 21 RNumber UINT32
-    ∷ numbers "INT32" -- 22 RNumber INT32
-    ∷ numbers "UINT64" -- 23 RNumber UINT64
-    ∷ numbers "INT64" -- 24 RNumber INT64
-    ∷ numbers "SIZET" -- 25 RNumber SIZET
-    ∷ (λ st e w. finish s st e (kind "REAL") (lexeme s (st .offset) (e - 1))) -- 26 RReal
-    ∷ (λ st e w. bad-number s st e) -- 27 RBadNumber
-    ∷ (λ st e w. comment-start s st e) -- 28 RCommentStart
-    ∷ skip -- 29 RInFStar
-    ∷ (λ st e w. done (line-comment s (lexeme s (st .offset) e) (advance st e))) -- 30 RLineComment
-    ∷ (λ st e w. done (string-lit s f (advance st e) (cur-pos s st))) -- 31 RString
-    ∷ (λ st e w. finish s st e (kind "IDENT") (lexeme s (st .offset + 2) (e - 2))) -- 32 RBacktickIdent
-    ∷ fixed "PIPE_LEFT" -- 33 RPipeLeft
-    ∷ fixed "PIPE_RIGHT" -- 34 RPipeRight
-    ∷ fixed "DOT_DOT" -- 35 RDotDot
-    ∷ (λ st e w. finish-entry s st e (entry op-tokens w)) -- 36 ROpToken
-    ∷ (λ st e w. finish s st e (kind "OPINFIX0c") (cps "<")) -- 37 RLt
-    ∷ (λ st e w. gt s st e) -- 38 RGt
-    ∷ operators "OPINFIX3R" -- 39 ROp OPINFIX3R
-    ∷ operators "OPINFIX4" -- 40 ROp OPINFIX4
-    ∷ operators "OPPREFIX" -- 41 ROp OPPREFIX
-    ∷ operators "OPINFIX0a" -- 42 ROp OPINFIX0a
-    ∷ operators "OPINFIX0b" -- 43 ROp OPINFIX0b
-    ∷ operators "OPINFIX0c" -- 44 ROp OPINFIX0c
-    ∷ operators "OPINFIX0d" -- 45 ROp OPINFIX0d
-    ∷ operators "OPINFIX1" -- 46 ROp OPINFIX1
-    ∷ operators "OPINFIX2" -- 47 ROp OPINFIX2
-    ∷ operators "OPINFIX3L" -- 48 ROp OPINFIX3L
-    ∷ (λ st e w. finish-word s st e uoperators "OPINFIX4") -- 49 RUOperator
-    ∷ (λ st e w. finish s st e (kind (entry mixfix-rules w .1)) (lexeme s (st .offset) e)) -- 50 RMixfix
+    (λ st e w. finish s st e (kind (entry early-literals w .1)) [])  -- 1 REarly
+    ∷ (λ st e w. done (blob s (header s st e 3) (advance st e)))  -- 2 RTripleBacktick
+    ∷ (λ st e w. done (use-lang s (header s st e 6) (advance st e)))  -- 3 RLang
+    ∷ (λ st e w. finish s st e (kind "STRING") name)  -- 4 RSourceFile
+    ∷ (λ st e w. finish s st e (kind "INT") (show (st .line)))  -- 5 RLine
+    ∷ (λ st e w. finish s st e (kind "STRING") (name ++ (cps "(" ++ (show (st .line) ++ cps ")"))))  -- 6 RFileLine
+    ∷ skip  -- 7 RWhite
+    ∷ (λ st e w. again (new-line (advance st e)))  -- 8 RNewline
+    ∷ (λ st e w. char-lit s st e)  -- 9 RCharLit
+    ∷ (λ st e w. char-lit s st e)  -- 10 RCharLitB
+    ∷ fixed "BACKTICK"  -- 11 RBacktick
+    ∷ (λ st e w. kw-op s st e (entry kw-op-rules w))  -- 12 RKwOp
+    ∷ fixed "SEMICOLON_OP"  -- 13 RSemiSemi
+    ∷ (λ st e w. ident s st e)  -- 14 RIdent
+    ∷ (λ st e w. finish-word s st e constructors "NAME")  -- 15 RConstructor
+    ∷ numbers "INT"  -- 16 RInt
+    ∷ (λ st e w. uint8 s st e)  -- 17 RUInt8
+    ∷ numbers "INT8"  -- 18 RNumber INT8
+    ∷ numbers "UINT16"  -- 19 RNumber UINT16
+    ∷ numbers "INT16"  -- 20 RNumber INT16
+    ∷ numbers "UINT32"  -- 21 RNumber UINT32
+    ∷ numbers "INT32"  -- 22 RNumber INT32
+    ∷ numbers "UINT64"  -- 23 RNumber UINT64
+    ∷ numbers "INT64"  -- 24 RNumber INT64
+    ∷ numbers "SIZET"  -- 25 RNumber SIZET
+    ∷ (λ st e w. finish s st e (kind "REAL") (lexeme s (st .offset) (e - 1)))  -- 26 RReal
+    ∷ (λ st e w. bad-number s st e)  -- 27 RBadNumber
+    ∷ (λ st e w. comment-start s st e)  -- 28 RCommentStart
+    ∷ skip  -- 29 RInFStar
+    ∷ (λ st e w. done (line-comment s (lexeme s (st .offset) e) (advance st e)))  -- 30 RLineComment
+    ∷ (λ st e w. done (string-lit s f (advance st e) (cur-pos s st)))  -- 31 RString
+    ∷ (λ st e w. finish s st e (kind "IDENT") (lexeme s (st .offset + 2) (e - 2)))  -- 32 RBacktickIdent
+    ∷ fixed "PIPE_LEFT"  -- 33 RPipeLeft
+    ∷ fixed "PIPE_RIGHT"  -- 34 RPipeRight
+    ∷ fixed "DOT_DOT"  -- 35 RDotDot
+    ∷ (λ st e w. finish-entry s st e (entry op-tokens w))  -- 36 ROpToken
+    ∷ (λ st e w. finish s st e (kind "OPINFIX0c") (cps "<"))  -- 37 RLt
+    ∷ (λ st e w. gt s st e)  -- 38 RGt
+    ∷ operators "OPINFIX3R"  -- 39 ROp OPINFIX3R
+    ∷ operators "OPINFIX4"  -- 40 ROp OPINFIX4
+    ∷ operators "OPPREFIX"  -- 41 ROp OPPREFIX
+    ∷ operators "OPINFIX0a"  -- 42 ROp OPINFIX0a
+    ∷ operators "OPINFIX0b"  -- 43 ROp OPINFIX0b
+    ∷ operators "OPINFIX0c"  -- 44 ROp OPINFIX0c
+    ∷ operators "OPINFIX0d"  -- 45 ROp OPINFIX0d
+    ∷ operators "OPINFIX1"  -- 46 ROp OPINFIX1
+    ∷ operators "OPINFIX2"  -- 47 ROp OPINFIX2
+    ∷ operators "OPINFIX3L"  -- 48 ROp OPINFIX3L
+    ∷ (λ st e w. finish-word s st e uoperators "OPINFIX4")  -- 49 RUOperator
+    ∷ (λ st e w. finish s st e (kind (entry mixfix-rules w .1)) (lexeme s (st .offset) e))  -- 50 RMixfix
     ∷ []
 
 -- what is done with a choice; place 0 is none of the rules

@@ -10,26 +10,26 @@ use Rattle.definition.specs.Token.{step}
 use Rattle.definition.specs.Run.{run-turn}
 use Rattle.definition.specs.declared.Extra.the-variants.{NoExtra}
 use Rattle.position.specs.Columns.{column-at, located}
-use Rattle.position.specs.declared.columns.Stretch.{Stretch}
-use Rattle.reader.specs.declared.Place.{Place}
+use Rattle.position.specs.declared.columns.AsciiRun.{AsciiRun}
+use Rattle.reader.specs.declared.Cursor.{Cursor}
 use Rattle.reader.specs.declared.Payload.{Payload}
 use Rattle.reader.specs.declared.Read.{Read}
 use Rattle.reader.specs.Described.{bytes-of, length-of, Reads}
 use Rattle.reader.proofs.DescribedBuilding.{item-of, token-reads}
 use Rattle.reader.proofs.Short.{short-long}
-use Rattle.reader.specs.Rulings.{Fits, ruling-step}
-use Rattle.reader.specs.declared.rulings.Ruling.{Ruling}
-use Rattle.reader.specs.declared.rulings.Ruling.the-variants.{Token, Error, LineComment}
-use Rattle.reader.proofs.RulingBuilding.{span-reads}
+use Rattle.reader.specs.Actions.{Fits, action-step}
+use Rattle.reader.specs.declared.actions.Action.{Action}
+use Rattle.reader.specs.declared.actions.Action.the-variants.{Token, Error, LineComment}
+use Rattle.reader.proofs.ActionBuilding.{span-reads}
 use Rattle.run_turn.specs.declared.Went.the-variants.{Wrote}
 use Rattle.run_turn.specs.Running.{writing, Ran}
 use Rattle.run_turn.proofs.TurnLaws.{wrote-ran}
 use Rattle.fast_path.specs.Puts.{Written, Puts}
 use Rattle.fast_path.specs.declared.puts.Put.the-variants as put-variants
 
-module _ (s name f : Bytes) (at here : Place) (count used : ℕ) (rs : List ℕ) (ps : Bytes) (awake : at .st .mode ≡ 2 → ⊥) (e : ℕ) where
-  token-ran : {k i to : ℕ} {p : Payload} {next : Place} {used′ : ℕ} {known : Stretch} {rs′ : List ℕ} {ps′ : Bytes}
-      → ruling-step s name f (here .st) e (Token k i to p) ≡ step s name f (at .st) → Fits s name here (Token k i to p)
+module _ (s name f : Bytes) (at here : Cursor) (count used : ℕ) (rs : List ℕ) (ps : Bytes) (awake : at .st .mode ≡ 2 → ⊥) (e : ℕ) where
+  token-ran : {k i to : ℕ} {p : Payload} {next : Cursor} {used′ : ℕ} {known : AsciiRun} {rs′ : List ℕ} {ps′ : Bytes}
+      → action-step s name f (here .st) e (Token k i to p) ≡ step s name f (at .st) → Fits s name here (Token k i to p)
       → Written s here k i to p (record-size * count) used rs ps next used′ known rs′ ps′
       → Ran s (run-turn s name f (writing at count used rs ps)) count (at .st) (Wrote next used′) rs′ ps′
   token-ran {k} {i} {to} {p} {next} {used′} {known} {rs′} {ps′} q fits w =
@@ -47,11 +47,11 @@ module _ (s name f : Bytes) (at here : Place) (count used : ℕ) (rs : List ℕ)
       token-reads s name f (bytes-of s name f p) k p (pos-of s st i) (pos-of s st to) NoExtra (advance st to) (column-at one-each s st to) size long (fits .1 f) known)) in
       rw (w .behind, w .spent) (wrote-ran s name f at count used rs ps awake (w .record-room) r reads size long rs′ ps′ (w .payload-room) (w .records) (w .payload name f))
 
-  -- a ruling that was written was a token
-  pub ruling-ran : (x : Ruling) (next : Place) (used′ : ℕ) (known : Stretch) (rs′ : List ℕ) (ps′ : Bytes)
-      → ruling-step s name f (here .st) e x ≡ step s name f (at .st) → Fits s name here x
+  -- an action that was written was a token
+  pub action-ran : (x : Action) (next : Cursor) (used′ : ℕ) (known : AsciiRun) (rs′ : List ℕ) (ps′ : Bytes)
+      → action-step s name f (here .st) e x ≡ step s name f (at .st) → Fits s name here x
       → Puts s here x (record-size * count) used rs ps (put-variants.Token next used′ known) rs′ ps′
       → Ran s (run-turn s name f (writing at count used rs ps)) count (at .st) (Wrote next used′) rs′ ps′
-  ruling-ran (Token k i to p) next used′ known rs′ ps′ q fits w = token-ran q fits w
-  ruling-ran (Error n p) next used′ known rs′ ps′ q fits w = absurd w
-  ruling-ran LineComment next used′ known rs′ ps′ q fits w = absurd w
+  action-ran (Token k i to p) next used′ known rs′ ps′ q fits w = token-ran q fits w
+  action-ran (Error n p) next used′ known rs′ ps′ q fits w = absurd w
+  action-ran LineComment next used′ known rs′ ps′ q fits w = absurd w

@@ -1,4 +1,4 @@
--- What writing a token asks for holds where its ruling can be carried out, and what was written is the token. Rests on the laws of
+-- What writing a token asks for holds where its action can be carried out, and what was written is the token. Rests on the laws of
 -- where a reader stands and of short payloads.
 use Prim.Native.Nat.{ℕ, _+_, _-_, _≤_, _<_}
 use mathlib.Core.Path.{_≡_, refl}
@@ -15,34 +15,34 @@ use Rattle.definition.specs.declared.State.{State}
 use Rattle.definition.specs.declared.Match.the-variants.{To}
 use Rattle.laws_run.proofs.Moving.{stands-within}
 use Rattle.position.specs.Columns.{Asked, column-at}
-use Rattle.position.specs.Stretches.{Plain}
-use Rattle.position.specs.declared.columns.Stretch.{Stretch}
+use Rattle.position.specs.AsciiRuns.{Plain}
+use Rattle.position.specs.declared.columns.AsciiRun.{AsciiRun}
 use Rattle.position.specs.declared.columns.Columns.{Columns}
 use Rattle.record.specs.Numbers.{plain-item}
-use Rattle.reader.specs.declared.Place.{Place}
+use Rattle.reader.specs.declared.Cursor.{Cursor}
 use Rattle.reader.specs.declared.Payload.{Payload}
 use Rattle.reader.specs.Described.{bytes-of, short-length}
 use Rattle.reader.proofs.Short.{short-long}
 use Rattle.reader.proofs.Standing.{asks}
-use Rattle.reader.specs.Rulings.{Fits, Rules}
-use Rattle.reader.specs.declared.rulings.Ruling.{Ruling}
-use Rattle.reader.specs.declared.rulings.Ruling.the-variants.{Token, Error, LineComment}
-use Rattle.fast_path.specs.Puts.{PairFits, Writes, TokenAsks, RulingAsks, Written}
+use Rattle.reader.specs.Actions.{Fits, Rules}
+use Rattle.reader.specs.declared.actions.Action.{Action}
+use Rattle.reader.specs.declared.actions.Action.the-variants.{Token, Error, LineComment}
+use Rattle.fast_path.specs.Puts.{PairFits, Writes, TokenAsks, ActionAsks, Written}
 
 -- ---- what writing asks for
 
--- what a ruling that can be carried out asks for
-ruling-asked : (s : Bytes) (here : Place) (x : Ruling) {first used : ℕ} {plain : Stretch} {rs : List ℕ} {ps : Bytes} → Fits s [] here x
-    → Writes s first used plain rs ps → RulingAsks s here x first used plain rs ps
-ruling-asked s here (Token k i e p) h w = record { spans = h .0; inside = h .1 [] .inside; writes = w }
-ruling-asked s here (Error n p) h w = tt
-ruling-asked s here LineComment h w = tt
+-- what an action that can be carried out asks for
+action-asked : (s : Bytes) (here : Cursor) (x : Action) {first used : ℕ} {plain : AsciiRun} {rs : List ℕ} {ps : Bytes} → Fits s [] here x
+    → Writes s first used plain rs ps → ActionAsks s here x first used plain rs ps
+action-asked s here (Token k i e p) h w = record { spans = h .0; inside = h .1 [] .inside; writes = w }
+action-asked s here (Error n p) h w = tt
+action-asked s here LineComment h w = tt
 
-pub ruling-asks : {s : Bytes} {here : Place} {e : ℕ} {t : Token-turn} {x : Ruling} {first used : ℕ} {plain : Stretch} {rs : List ℕ} {ps : Bytes}
-    → Rules s [] here e t x → Writes s first used plain rs ps → RulingAsks s here x first used plain rs ps
-ruling-asks {s} {here} {x = x} r w = ruling-asked s here x (r .fits) w
+pub action-asks : {s : Bytes} {here : Cursor} {e : ℕ} {t : Token-turn} {x : Action} {first used : ℕ} {plain : AsciiRun} {rs : List ℕ} {ps : Bytes}
+    → Rules s [] here e t x → Writes s first used plain rs ps → ActionAsks s here x first used plain rs ps
+action-asks {s} {here} {x = x} r w = action-asked s here x (r .fits) w
 
-module _ {s : Bytes} {here : Place} {i e : ℕ} {p : Payload} {first used : ℕ} {plain : Stretch} {rs : List ℕ} {ps : Bytes}
+module _ {s : Bytes} {here : Cursor} {i e : ℕ} {p : Payload} {first used : ℕ} {plain : AsciiRun} {rs : List ℕ} {ps : Bytes}
     (h : TokenAsks s here i e p first used plain rs ps) where
   -- the columns of both ends may be asked for
   pub start-asked : Asked one-each s (here .st) (here .known) i
@@ -73,8 +73,8 @@ module _ {s : Bytes} {here : Place} {i e : ℕ} {p : Payload} {first used : ℕ}
 -- ---- a token that was written
 
 -- what was written is the token
-pub token-written : {s : Bytes} {here : Place} {i e : ℕ} {p : Payload} {first used size : ℕ} {rs : List ℕ} {ps : Bytes} (k : ℕ) (cols : Columns) (next : State)
-    (known : Stretch) (rs′ : List ℕ) (ps′ : Bytes)
+pub token-written : {s : Bytes} {here : Cursor} {i e : ℕ} {p : Payload} {first used size : ℕ} {rs : List ℕ} {ps : Bytes} (k : ℕ) (cols : Columns) (next : State)
+    (known : AsciiRun) (rs′ : List ℕ) (ps′ : Bytes)
     → short-length p ≡ To size → record-size ≤ length rs - first → size ≤ length ps - used
     → (cols .start ≡ column-at one-each s (here .st) i .col) × (cols .end ≡ column-at one-each s (here .st) e .col) → next ≡ advance (here .st) e
     → (rs′ ≡ put rs first (words (plain-item k (record { line = here .st .line; col = cols .start }) (record { line = here .st .line; col = cols .end }) size (here .st .comments)) used))

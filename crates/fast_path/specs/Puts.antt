@@ -11,15 +11,15 @@ use Rattle.definition.specs.Item.{record-size, words}
 use Rattle.definition.specs.Run.{put}
 use Rattle.definition.specs.declared.Match.the-variants.{To}
 use Rattle.position.specs.Columns.{column-at}
-use Rattle.position.specs.Stretches.{Plain}
-use Rattle.position.specs.declared.columns.Stretch.{Stretch}
-use Rattle.reader.specs.declared.Place.{Place}
+use Rattle.position.specs.AsciiRuns.{Plain}
+use Rattle.position.specs.declared.columns.AsciiRun.{AsciiRun}
+use Rattle.reader.specs.declared.Cursor.{Cursor}
 use Rattle.reader.specs.declared.Payload.{Payload}
 use Rattle.reader.specs.Described.{bytes-of, short-length, Inside}
 use Rattle.record.specs.Numbers.{plain-item}
-use Rattle.reader.specs.Rulings.{Spans}
-use Rattle.reader.specs.declared.rulings.Ruling.{Ruling}
-use Rattle.reader.specs.declared.rulings.Ruling.the-variants.{Token, Error, LineComment}
+use Rattle.reader.specs.Actions.{Spans}
+use Rattle.reader.specs.declared.actions.Action.{Action}
+use Rattle.reader.specs.declared.actions.Action.the-variants.{Token, Error, LineComment}
 use Rattle.fast_path.specs.declared.puts.Put.{Put}
 use Rattle.fast_path.specs.declared.puts.Put.the-variants as put-variants
 
@@ -34,28 +34,28 @@ pub record PairFits (s : Bytes) (p : Payload) (size first used : ℕ) (rs : List
   pub small : size < 4294967296
   pub little : used < 4294967296
 
--- what writing asks for besides: where the buffers are written so far, and a stretch that is ASCII
-pub record Writes (s : Bytes) (first used : ℕ) (known : Stretch) (rs : List ℕ) (ps : Bytes) : Type 0 where
+-- what writing asks for besides: where the buffers are written so far, and a run of ASCII
+pub record Writes (s : Bytes) (first used : ℕ) (known : AsciiRun) (rs : List ℕ) (ps : Bytes) : Type 0 where
   pub begun : first ≤ length rs
   pub filled : used ≤ length ps
   pub little : used < 4294967296
   pub plain : Plain s known
 
 -- what a token from i up to e asks for. No short payload has the file's name in it, so that any name will do
-pub record TokenAsks (s : Bytes) (here : Place) (i e : ℕ) (p : Payload) (first used : ℕ) (plain : Stretch) (rs : List ℕ) (ps : Bytes) : Type 0 where
+pub record TokenAsks (s : Bytes) (here : Cursor) (i e : ℕ) (p : Payload) (first used : ℕ) (plain : AsciiRun) (rs : List ℕ) (ps : Bytes) : Type 0 where
   pub spans : Spans s [] here i e p
   pub inside : Inside s p
   pub writes : Writes s first used plain rs ps
 
--- what a ruling asks for
-abbrev pub RulingAsks : Bytes → Place → Ruling → ℕ → ℕ → Stretch → List ℕ → Bytes → Type 0
-RulingAsks s here (Token k i e p) first used plain rs ps = TokenAsks s here i e p first used plain rs ps
-RulingAsks s here (Error n p) first used plain rs ps = Unit {0}
-RulingAsks s here LineComment first used plain rs ps = Unit {0}
+-- what an action asks for
+abbrev pub ActionAsks : Bytes → Cursor → Action → ℕ → ℕ → AsciiRun → List ℕ → Bytes → Type 0
+ActionAsks s here (Token k i e p) first used plain rs ps = TokenAsks s here i e p first used plain rs ps
+ActionAsks s here (Error n p) first used plain rs ps = Unit {0}
+ActionAsks s here LineComment first used plain rs ps = Unit {0}
 
 -- a token from i up to e was written, and reading goes on behind it
-pub record Written (s : Bytes) (here : Place) (k i e : ℕ) (p : Payload) (first used : ℕ) (rs : List ℕ) (ps : Bytes) (next : Place) (used′ : ℕ)
-    (known : Stretch) (rs′ : List ℕ) (ps′ : Bytes) : Type 0 where
+pub record Written (s : Bytes) (here : Cursor) (k i e : ℕ) (p : Payload) (first used : ℕ) (rs : List ℕ) (ps : Bytes) (next : Cursor) (used′ : ℕ)
+    (known : AsciiRun) (rs′ : List ℕ) (ps′ : Bytes) : Type 0 where
   pub size : ℕ
   pub short : short-length p ≡ To size
   pub record-room : record-size ≤ length rs - first
@@ -66,8 +66,8 @@ pub record Written (s : Bytes) (here : Place) (k i e : ℕ) (p : Payload) (first
   pub payload : (name f : Bytes) → ps′ ≡ put ps used (bytes-of s name f p)
   pub plain : Plain s known
 
--- what became of a ruling: where it was left both buffers are what they were
-abbrev pub Puts : Bytes → Place → Ruling → ℕ → ℕ → List ℕ → Bytes → Put → List ℕ → Bytes → Type 0
+-- what became of an action: where it was left both buffers are what they were
+abbrev pub Puts : Bytes → Cursor → Action → ℕ → ℕ → List ℕ → Bytes → Put → List ℕ → Bytes → Type 0
 Puts s here x first used rs ps put-variants.Left rs′ ps′ = (rs′ ≡ rs) × (ps′ ≡ ps)
 Puts s here (Token k i e p) first used rs ps (put-variants.Token next used′ plain) rs′ ps′ = Written s here k i e p first used rs ps next used′ plain rs′ ps′
 Puts s here (Error n p) first used rs ps (put-variants.Token next used′ plain) rs′ ps′ = ⊥

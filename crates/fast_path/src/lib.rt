@@ -1,4 +1,4 @@
-// The tokens of a run that follow one another, each written from its ruling (module `puts`). Nearly all items are such tokens,
+// The tokens of a run that follow one another, each written from its action (module `puts`). Nearly all items are such tokens,
 // and what is handed from function to function for an item costs more than the token.
 //
 // Proved: behind the tokens what is still to come of the run is what was to come before them, whatever the file's name is (no
@@ -6,16 +6,16 @@
 // what stands ahead there is said (`BurstsTo`). That as many tokens as possible are written is not promised: what is left, a turn writes.
 // Assumed: nothing but what `write_tokens`'s `requires` says: the run was not refused and stands between two items, and the
 // tables of operator and of symbol characters are lent.
-pub mod puts; // puts.rt: a token written from its ruling
+pub mod puts; // puts.rt: a token written from its action
 
 use crate::puts::Put;
-use crate::puts::put_ruling;
+use crate::puts::put_action;
 use lookahead::Ahead;
 use lookahead::look;
-use position::columns::Stretch;
-use reader::Place;
+use position::columns::AsciiRun;
+use reader::Cursor;
 use rule_table::table::rule_of;
-use rules::gives_ruling;
+use rules::gives_action;
 use rules::ruled;
 ghost use mathlib.Core.List.{[]};
 ghost use Rattle.select.specs.Standing.{Lent};
@@ -24,8 +24,8 @@ ghost use Rattle.fast_path.specs.Bursts.{BurstsTo};
 
 // Behind a run's tokens: where the run stands, and what stands ahead, behind white space at `here`.
 pub struct Burst {
-    pub at: Place,
-    pub here: Place,
+    pub at: Cursor,
+    pub here: Cursor,
     pub ahead: Ahead,
     pub count: usize,
     pub used: usize,
@@ -38,7 +38,7 @@ pub fn write_tokens(
     classes: &[u8],
     ops: &[bool; 128],
     symbols: &[bool; 128],
-    start: Place,
+    start: Cursor,
     begun: usize,
     filled: usize,
     records: &mut [u32],
@@ -60,13 +60,13 @@ pub fn write_tokens(
     let mut at = start;
     let mut count = begun;
     let mut used = filled;
-    let mut plain = Stretch { from: 0, to: 0 };
+    let mut plain = AsciiRun { from: 0, to: 0 };
     loop {
         let sight = look(text, classes, ops, symbols, at);
         let here = sight.at;
         let choice = sight.choice;
         let rule = rule_of(choice.place);
-        if !gives_ruling(rule) {
+        if !gives_action(rule) {
             return Burst {
                 at: at,
                 here: here,
@@ -75,15 +75,15 @@ pub fn write_tokens(
                 used: used,
             };
         }
-        let ruling = ruled(text, here, choice, rule);
-        match put_ruling(text, here, ruling, 16 * count, used, plain, records, bytes) {
+        let action = ruled(text, here, choice, rule);
+        match put_action(text, here, action, 16 * count, used, plain, records, bytes) {
             Put::Left => {
                 return Burst {
                     at: at,
                     here: here,
                     ahead: Ahead::Ruled {
                         end: choice.end,
-                        ruling: ruling,
+                        action: action,
                     },
                     count: count,
                     used: used,

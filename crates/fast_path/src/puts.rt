@@ -1,19 +1,19 @@
-// A token written from its ruling, where it is found, without an item being made of it.
+// A token written from its action, where it is found, without an item being made of it.
 //
-// Proved: a ruling is left, and both buffers are what they were, or it is a token and is written as the definition's item is:
+// Proved: an action is left, and both buffers are what they were, or it is a token and is written as the definition's item is:
 // its record with its columns, its payload, and the state behind it (specs/Puts.antt).
-// Assumed: nothing but what each function's `requires` says: the ruling can be carried out where the reader stands, and both
+// Assumed: nothing but what each function's `requires` says: the action can be carried out where the reader stands, and both
 // buffers are written up to where the next record and payload begin.
 use definition::Match;
 use definition::Pos;
 use payload_write::write_short;
 use position::Cache;
-use position::columns::Stretch;
-use position::stretches::columns;
-use position::stretches::stretch;
+use position::ascii_runs::ascii_run;
+use position::ascii_runs::columns;
+use position::columns::AsciiRun;
+use reader::Cursor;
 use reader::Payload;
-use reader::Place;
-use reader::rulings::Ruling;
+use reader::actions::Action;
 use reader::short_length;
 use record::write_token;
 ghost use mathlib.Core.Path.{_≡_};
@@ -22,17 +22,17 @@ ghost use Rattle.definition.specs.Item.{words};
 ghost use Rattle.definition.specs.Run.{put};
 ghost use Rattle.reader.specs.Described.{bytes-of};
 ghost use Rattle.record.specs.Numbers.{plain-item};
-ghost use Rattle.reader.specs.declared.rulings.Ruling.the-variants.{Token};
-ghost use Rattle.fast_path.specs.Puts.{PairFits, TokenAsks, RulingAsks, Puts};
+ghost use Rattle.reader.specs.declared.actions.Action.the-variants.{Token};
+ghost use Rattle.fast_path.specs.Puts.{PairFits, TokenAsks, ActionAsks, Puts};
 
-// What became of a ruling: it was left, or it was a token and is written, behind which reading goes on with so many payload
-// bytes used and with a stretch of the text that is known to be ASCII.
+// What became of an action: it was left, or it was a token and is written, behind which reading goes on with so many payload
+// bytes used and with a part of the text that is known to be ASCII.
 pub enum Put {
     Left,
     Token {
-        next: Place,
+        next: Cursor,
         used: usize,
-        plain: Stretch,
+        plain: AsciiRun,
     },
 }
 
@@ -68,14 +68,14 @@ fn write_pair(
 // Writes a token from byte `from` up to byte `to`, if its record and its payload fit and its payload is a short one.
 fn put_token(
     text: &[u8],
-    here: Place,
+    here: Cursor,
     kind: u32,
     from: usize,
     to: usize,
     payload: Payload,
     first: usize,
     used: usize,
-    plain: Stretch,
+    plain: AsciiRun,
     records: &mut [u32],
     bytes: &mut [u8],
 ) -> Put
@@ -93,7 +93,7 @@ fn put_token(
     }
     let st = here.st;
     let known = here.known;
-    let ascii = stretch(text, known, plain, to);
+    let ascii = ascii_run(text, known, plain, to);
     let cols = columns(text, st, known, ascii, from as u32, to as u32);
     let sp = Pos {
         line: st.line,
@@ -121,7 +121,7 @@ fn put_token(
         col: cols.end,
     };
     Put::Token {
-        next: Place {
+        next: Cursor {
             st: st.advance(to as u32),
             known: behind,
         },
@@ -130,26 +130,26 @@ fn put_token(
     }
 }
 
-// Writes what a ruling says, if it says a token and that fits.
-pub fn put_ruling(
+// Writes what an action says, if it says a token and that fits.
+pub fn put_action(
     text: &[u8],
-    here: Place,
-    ruling: Ruling,
+    here: Cursor,
+    action: Action,
     first: usize,
     used: usize,
-    plain: Stretch,
+    plain: AsciiRun,
     records: &mut [u32],
     bytes: &mut [u8],
 ) -> Put
-    requires { ⌜ RulingAsks (now text) here ruling first used plain (now records) (now bytes) ⌝ }
-    ensures { λ r. ⌜ Puts (now (text .entry)) here ruling first used (now (records .entry)) (now (bytes .entry)) r (now (records .exit)) (now (bytes .exit)) ⌝ }
+    requires { ⌜ ActionAsks (now text) here action first used plain (now records) (now bytes) ⌝ }
+    ensures { λ r. ⌜ Puts (now (text .entry)) here action first used (now (records .entry)) (now (bytes .entry)) r (now (records .exit)) (now (bytes .exit)) ⌝ }
 {
-    let Ruling::Token {
+    let Action::Token {
         kind,
         from: begin,
         end: behind,
         payload,
-    } = ruling
+    } = action
     else {
         return Put::Left;
     };

@@ -3,13 +3,13 @@ use Prim.Native.Nat.{ℕ}
 use mathlib.Core.List.{List}
 use Rattle.definition.specs.Basics.{Bytes}
 use Rattle.definition.specs.declared.State.{State}
-use Rattle.reader.specs.declared.Place.{Place}
+use Rattle.reader.specs.declared.Cursor.{Cursor}
 use Rattle.run_turn.specs.Running.{Going}
 use Rattle.run_turn.proofs.RunLaws.{between-any, going-from}
 use Rattle.fast_path.specs.Bursts.{BurstsTo}
 use Rattle.fast_path.specs.declared.Burst.{Burst}
 
-pub behind : {s name f : Bytes} {st : State} {rs₀ : List ℕ} {ps₀ : Bytes} {at : Place} {count used : ℕ} {rs : List ℕ} {ps : Bytes} {b : Burst} {rs′ : List ℕ} {ps′ : Bytes}
+pub behind : {s name f : Bytes} {st : State} {rs₀ : List ℕ} {ps₀ : Bytes} {at : Cursor} {count used : ℕ} {rs : List ℕ} {ps : Bytes} {b : Burst} {rs′ : List ℕ} {ps′ : Bytes}
     → Going s name f st rs₀ ps₀ at count used rs ps → BurstsTo s f at count used rs ps b rs′ ps′
     → Going s name f st rs₀ ps₀ (b .at) (b .count) (b .used) rs′ ps′
 behind {name = name} g w = let named = g .between .named in going-from g (between-any (w .between) name named) (w .same name named)

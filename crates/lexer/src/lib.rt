@@ -10,7 +10,7 @@ use definition::RunAnswer;
 use definition::State;
 use fast_path::write_tokens;
 use position::Cache;
-use reader::Place;
+use reader::Cursor;
 use refusal::refusal;
 use run_turn::Went;
 use run_turn::turn;
@@ -37,7 +37,7 @@ fn run_items(
         off: st.bol,
         col: st.column,
     };
-    let mut at = Place {
+    let mut at = Cursor {
         st: st,
         known: known,
     };

@@ -17,7 +17,7 @@ use Rattle.laws_progress.proofs.Tokens.{token-falls, token-unroll}
 use Rattle.laws_run.proofs.Steps.{token-turn-stands}
 use Rattle.reader.specs.Described.{Turns}
 use Rattle.reader.specs.Standing.{Standing}
-use Rattle.reader.specs.declared.Place.{Place}
+use Rattle.reader.specs.declared.Cursor.{Cursor}
 use Rattle.reader.specs.declared.Turned.{Turned}
 use Rattle.reader.specs.declared.Turned.the-variants.{Again}
 use Rattle.reader.proofs.Turning.{turned-again}
@@ -42,13 +42,13 @@ turn-leads s name f st h m =
     (leads-map (λ b l. l .1) (λ t _. tt) (token-turn s name f st) (token-falls s name f .at st tt))
 
 -- a turn that goes on stands where it does, with less of the text before it, and reads the same from there
-pub record Goes (s name f : Bytes) (st : State) (p : Place) : Type 0 where
+pub record Goes (s name f : Bytes) (st : State) (p : Cursor) : Type 0 where
   pub standing : Standing s (p .st) (p .known)
   pub between : p .st .mode ≡ 0
   pub same : next-token s name f (p .st) ≡ next-token s name f st
   pub less : length s - p .st .offset < length s - st .offset
 
-pub turn-goes : (s name f : Bytes) (st : State) (p : Place) → Stands s st → st .mode ≡ 0 → Turns s name f (token-turn s name f st) (Again p) → Goes s name f st p
+pub turn-goes : (s name f : Bytes) (st : State) (p : Cursor) → Stands s st → st .mode ≡ 0 → Turns s name f (token-turn s name f st) (Again p) → Goes s name f st p
 turn-goes s name f st p h m t =
     let g = turned-again s name f (λ b. (Stands s b × (b .mode ≡ 0)) × (rest s (b .offset) < rest s (st .offset))) Any
     (token-turn s name f st) (next-token s name f) p (turn-leads s name f st h m) t in
@@ -61,11 +61,11 @@ turn-goes s name f st p h m t =
 
 -- ---- white space before a choice
 
-pub behind-starts : {s f : Bytes} {at : Place} → Between s f at → Behind s f at at
+pub behind-starts : {s f : Bytes} {at : Cursor} → Between s f at → Behind s f at at
 behind-starts h = record { ready = h; same = λ name. refl; less = omega arith }
 
 -- what is passed leads on behind it
-pub behind-on : {s f : Bytes} {first here next : Place} → Behind s f first here → Passes s f (here .st) (On next)
+pub behind-on : {s f : Bytes} {first here next : Cursor} → Behind s f first here → Passes s f (here .st) (On next)
     → Behind s f first next × (length s - next .st .offset < length s - here .st .offset)
 behind-on {s} {f} {first} {here} {next} b p =
     let goes : (name : Bytes) → Goes s name f (here .st) next = λ name. turn-goes s name f (here .st) next (b .ready .standing .stands) (b .ready .between) (p name) in

@@ -23,10 +23,10 @@ use Rattle.star.proofs.RunLaws.{one-yes}
 use Rattle.star.specs.Blanks.{is-blank}
 use Rattle.star.proofs.WhiteLaws.{small-blank, ascii-white}
 use Rattle.select.proofs.First.{white-path, line-path}
-use Rattle.reader.specs.Places.{moved, next-line}
-use Rattle.reader.specs.declared.Place.{Place}
+use Rattle.reader.specs.Cursors.{moved, next-line}
+use Rattle.reader.specs.declared.Cursor.{Cursor}
 use Rattle.reader.specs.declared.Turned.the-variants.{Again}
-use Rattle.reader.specs.Rulings.{Chose}
+use Rattle.reader.specs.Actions.{Chose}
 use Rattle.rules.proofs.RuleLaws.{moved-turns, line-turns}
 use Rattle.lookahead.specs.White.{Between, Passes}
 use Rattle.lookahead.specs.declared.white_space.Passed.the-variants.{On}
@@ -68,7 +68,7 @@ module _ (s f : Bytes) (i : ℕ) where
 
 -- ---- what is passed
 
-module _ {s f : Bytes} {at : Place} (h : Between s f at) where
+module _ {s f : Bytes} {at : Cursor} (h : Between s f at) where
   -- what a place chooses ends behind where the reader stands
   chose : {k e : ℕ} → select s f (at .st .offset) ≡ record { place = k; end = e; word = 0 } → eqb k 0 ≡ false → Chose s at e
   chose {k} {e} q z =
@@ -79,7 +79,7 @@ module _ {s f : Bytes} {at : Place} (h : Between s f at) where
   pub blank-chose : {e : ℕ} → byte-has is-blank s (at .st .offset) ≡ true → e ≡ star (is-anywhite f) s (at .st .offset + 1) → Chose s at e
   blank-chose t q = chose (blank-selects s f (at .st .offset) t q) refl
 
-  pub blank-passes : {e : ℕ} {p : Place} → byte-has is-blank s (at .st .offset) ≡ true → e ≡ star (is-anywhite f) s (at .st .offset + 1) → p ≡ moved at e → Passes s f (at .st) (On p)
+  pub blank-passes : {e : ℕ} {p : Cursor} → byte-has is-blank s (at .st .offset) ≡ true → e ≡ star (is-anywhite f) s (at .st .offset + 1) → p ≡ moved at e → Passes s f (at .st) (On p)
   unfolding act rules
   blank-passes {e} {p} t q m name =
       turn-acts s name f (at .st) (record { place = 7; end = e; word = 0 }) (Again p) (byte-passes is-blank s (at .st .offset) t .0) (sym (blank-selects s f (at .st .offset) t q)) (moved-turns (blank-chose t q) m)
@@ -88,7 +88,7 @@ module _ {s f : Bytes} {at : Place} (h : Between s f at) where
   pub line-chose : {e : ℕ} → byte-has is-line-end s (at .st .offset) ≡ true → match-newline s (at .st .offset) ≡ To e → Chose s at e
   line-chose t q = chose (line-selects s f (at .st .offset) t q) refl
 
-  pub line-passes : {e : ℕ} {p : Place} → byte-has is-line-end s (at .st .offset) ≡ true → match-newline s (at .st .offset) ≡ To e → p ≡ next-line at e → Passes s f (at .st) (On p)
+  pub line-passes : {e : ℕ} {p : Cursor} → byte-has is-line-end s (at .st .offset) ≡ true → match-newline s (at .st .offset) ≡ To e → p ≡ next-line at e → Passes s f (at .st) (On p)
   unfolding act rules
   line-passes {e} {p} t q m name =
       turn-acts s name f (at .st) (record { place = 8; end = e; word = 0 }) (Again p) (byte-passes is-line-end s (at .st .offset) t .0) (sym (line-selects s f (at .st .offset) t q)) (line-turns (line-chose t q) m)

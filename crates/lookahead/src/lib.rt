@@ -1,4 +1,4 @@
-// What stands ahead of a reader: the choice behind white space and line ends, and the ruling on it where its rule gives one.
+// What stands ahead of a reader: the choice behind white space and line ends, and the action on it where its rule gives one.
 //
 // Proved: from where `look` stands the definition's `next-token` gives the same item, and the choice is the definition's
 // `select` there, which is neither white space nor a line end. What the item is that stands ahead is said in
@@ -9,10 +9,10 @@ pub mod white_space; // white_space.rt: white space and line ends of ASCII, pass
 
 use crate::white_space::behind_white;
 use definition::Choice;
-use reader::Place;
-use reader::places::moved;
-use reader::places::next_line;
-use reader::rulings::Ruling;
+use reader::Cursor;
+use reader::actions::Action;
+use reader::cursors::moved;
+use reader::cursors::next_line;
 use rule_table::table::LINE_END;
 use rule_table::table::WHITE;
 use rule_table::table::rule_of;
@@ -21,16 +21,16 @@ ghost use Rattle.lookahead.specs.Sights.{Looks, Sees};
 
 // Where a reader stands behind white space and line ends, and what is chosen there.
 pub struct Sight {
-    pub at: Place,
+    pub at: Cursor,
     pub choice: Choice,
 }
 
 // What stands ahead of a reader.
 pub enum Ahead {
-    // A choice whose rule gives no ruling, or none at all: an unexpected character, or the text's end.
+    // A choice whose rule gives no action, or none at all: an unexpected character, or the text's end.
     Chosen(Choice),
-    // A ruling on a choice that ends at byte `end`.
-    Ruled { end: usize, ruling: Ruling },
+    // An action on a choice that ends at byte `end`.
+    Ruled { end: usize, action: Action },
     // The inside of a comment; or nothing, where the reading has ended.
     Inside,
 }
@@ -41,7 +41,7 @@ pub fn look(
     classes: &[u8],
     ops: &[bool; 128],
     symbols: &[bool; 128],
-    at: Place,
+    at: Cursor,
 ) -> Sight
     requires { ⌜ Looks (now text) (now classes) (now ops) (now symbols) at ⌝ }
     ensures { λ r. ⌜ Sees (now (text .entry)) (now (classes .entry)) at r ⌝ }

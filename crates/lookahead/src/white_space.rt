@@ -8,21 +8,21 @@
 use definition::Match;
 use match_lit::byte_either;
 use matchers::match_newline;
-use reader::Place;
-use reader::places::moved;
-use reader::places::next_line;
+use reader::Cursor;
+use reader::cursors::moved;
+use reader::cursors::next_line;
 use star::blanks::blank_at;
 use star::blanks::star_anywhite;
 ghost use Rattle.lookahead.specs.White.{Between, Passes, Behind};
 
 // What is passed at a place: a run of white space or a line end, with the place behind it, or nothing.
 enum Passed {
-    On(Place),
+    On(Cursor),
     Nothing,
 }
 
 // One run of white space or one line end.
-fn past_white(text: &[u8], classes: &[u8], at: Place) -> Passed
+fn past_white(text: &[u8], classes: &[u8], at: Cursor) -> Passed
     requires { ⌜ Between (now text) (now classes) at ⌝ }
     ensures { λ r. ⌜ Passes (now (text .entry)) (now (classes .entry)) (at .st) r ⌝ }
 {
@@ -41,7 +41,7 @@ fn past_white(text: &[u8], classes: &[u8], at: Place) -> Passed
 }
 
 // Where a reader stands behind white space and line ends that begin with ASCII.
-pub fn behind_white(text: &[u8], classes: &[u8], at: Place) -> Place
+pub fn behind_white(text: &[u8], classes: &[u8], at: Cursor) -> Cursor
     requires { ⌜ Between (now text) (now classes) at ⌝ }
     ensures { λ r. ⌜ Behind (now (text .entry)) (now (classes .entry)) at r ⌝ }
 {

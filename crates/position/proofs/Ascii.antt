@@ -13,8 +13,8 @@ use Rattle.definition.specs.declared.State.{State}
 use Rattle.position.specs.declared.Cache.{Cache}
 use Rattle.position.specs.Columns.{Asked, column-at}
 use Rattle.position.proofs.Counting.{unit-is, below-tails, from-known, known-again}
-use Rattle.position.specs.declared.columns.Stretch.{Stretch}
-use Rattle.position.specs.Stretches.{Ascii, Plain, Covers}
+use Rattle.position.specs.declared.columns.AsciiRun.{AsciiRun}
+use Rattle.position.specs.AsciiRuns.{Ascii, Plain, Covers}
 
 -- ---- columns
 
@@ -29,14 +29,14 @@ ascii-count s i (suc n) h =
     omega arith
 
 -- the column of an offset behind the known one, with nothing but ASCII between
-ascii-column : (s : Bytes) (st : State) (known : Cache) (p : Stretch) (i : ℕ) → Plain s p → p .from ≤ known .off → known .off ≤ i → i ≤ p .to
+ascii-column : (s : Bytes) (st : State) (known : Cache) (p : AsciiRun) (i : ℕ) → Plain s p → p .from ≤ known .off → known .off ≤ i → i ≤ p .to
     → Asked one-each s st known i → _≡_ {A = Cache} (record { off = i; col = known .col + (i - known .off) }) (column-at one-each s st i)
 ascii-column s st known p i h f b t a =
     from-known one-each s st known i (i - known .off) a b
     (sym (ascii-count s (known .off) (i - known .off) (λ k x y. h k (omega arith) (omega arith))))
 
--- both ends of a token that a stretch covers
-module _ {s : Bytes} {st : State} {known : Cache} {p : Stretch} {from to : ℕ} (h : Plain s p) (v : Covers p known from to) where
+-- both ends of a token that a run of ASCII covers
+module _ {s : Bytes} {st : State} {known : Cache} {p : AsciiRun} {from to : ℕ} (h : Plain s p) (v : Covers p known from to) where
   pub start-covered : Asked one-each s st known from → _≡_ {A = Cache} (record { off = from; col = known .col + (from - known .off) }) (column-at one-each s st from)
   start-covered = ascii-column s st known p from h (v .starts) (v .behind) (omega (arith, v .order, v .ends))
 

@@ -1,2 +1,2 @@
 pub mod Columns
-pub mod Stretches
+pub mod AsciiRuns

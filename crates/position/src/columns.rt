@@ -1,9 +1,9 @@
 // The columns of a token's ends, without a count where the bytes before them are known to be ASCII. Proved: the columns are
-// the definition's, whatever stretch is given that is ASCII, and each stretch that is handed back is. Assumed: nothing but
+// the definition's, whatever run of ASCII is given, and each that is handed back is one. Assumed: nothing but
 // what each function's `requires` says.
 
 // A part of the text that is known to be ASCII.
-pub struct Stretch {
+pub struct AsciiRun {
     pub from: usize,
     pub to: usize,
 }

@@ -3,7 +3,7 @@
 // definition's from any cache that is right, and the cache afterwards, lent or handed back, is right again. The laws of
 // the count and of columns are stated for any weight per character; the functions count 1 for each.
 // Assumed: nothing but what each function's `requires` says.
-pub mod stretches; // stretches.rt: the functions
+pub mod ascii_runs; // ascii_runs.rt: the functions
 pub mod columns; // columns.rt: the columns of a token's ends, without a count where the bytes before them are known to be ASCII
 
 ghost use mathlib.Core.Path.{_≡_};

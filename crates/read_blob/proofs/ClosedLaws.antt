@@ -17,7 +17,7 @@ use Rattle.position.specs.Columns.{located}
 use Rattle.position.specs.declared.Located.{Located}
 use Rattle.laws_run.proofs.Moving.{stands-within}
 use Rattle.reader.specs.declared.Payload.the-variants.{Blob as Blob-of}
-use Rattle.reader.specs.declared.Place.{Place}
+use Rattle.reader.specs.declared.Cursor.{Cursor}
 use Rattle.reader.specs.Described.{Describes, Reads}
 use Rattle.reader.proofs.Standing.{known-asked, known-kept, position-kept}
 use Rattle.read_blob.specs.declared.Header.{Header}
@@ -27,7 +27,7 @@ use Rattle.read_blob.specs.Contents.{header-of, kind-of, blob-step, InBl
 abbrev item-of : ℕ → Pos → Pos → ℕ → ℕ → ℕ → Header → Item
 item-of k sp ep n comments m h = record { kind = k; sp = sp; ep = ep; length = n; comments = comments; extra = Blob m (h .pos) (h .snap) }
 
-module _ (s : Bytes) (header : Header) (lang : Bool) (from : ℕ) (at : Place) (e : ℕ) (h : InBlob s header from at) (next : Stands s (advance (at .st) e)) where
+module _ (s : Bytes) (header : Header) (lang : Bool) (from : ℕ) (at : Cursor) (e : ℕ) (h : InBlob s header from at) (next : Stands s (advance (at .st) e)) where
   abbrev st : State
   st = at .st
 

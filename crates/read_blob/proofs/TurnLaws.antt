@@ -23,10 +23,10 @@ use Rattle.laws_progress.proofs.Literals.{blob-falls, lang-falls}
 use Rattle.laws_progress.proofs.Fuel.{blob-from, blob-unroll, blob-is, lang-from, lang-unroll, lang-is}
 use Rattle.laws_run.proofs.Moving.{stands-clean, stands-within}
 use Rattle.laws_run.proofs.TurnsSound.{blob-turn-stands, lang-turn-stands}
-use Rattle.reader.specs.declared.Place.{Place}
+use Rattle.reader.specs.declared.Cursor.{Cursor}
 use Rattle.reader.specs.declared.Turned.{Turned}
 use Rattle.reader.specs.declared.Turned.the-variants.{Done, Again}
-use Rattle.reader.specs.Places.{moved, next-line}
+use Rattle.reader.specs.Cursors.{moved, next-line}
 use Rattle.reader.proofs.Standing.{known-kept, known-line}
 use Rattle.reader.proofs.Turning.{turned-done, turned-again}
 use Rattle.reader.specs.declared.Read.{Read}
@@ -105,7 +105,7 @@ contents-unroll s false from h st k = blob-unroll s from h st (stands-clean k)
 
 -- ---- what a turn asks for and answers
 
-module _ (s : Bytes) (header : Header) (from : ℕ) (at : Place) (h : InBlob s header from at) (lang : Bool) where
+module _ (s : Bytes) (header : Header) (from : ℕ) (at : Cursor) (h : InBlob s header from at) (lang : Bool) where
   leads : (m : Move) → move-at s lang (at .st .offset) ≡ m
       → Leads (λ b. Stands s b × (b .mode ≡ 0)) (λ t. Stands s (t .next)) (does s lang from (header-of s header) (at .st) m)
   leads m e = move-stands s from (header-of s header) (at .st) lang m (h .standing .stands) (h .between) e
@@ -138,12 +138,12 @@ module _ (s : Bytes) (header : Header) (from : ℕ) (at : Place) (h : InBlob s h
   open-turns r name f q c = move-turns s from (header-of s header) (at .st) name f lang Open (Done r) q c
 
   -- reading goes on, on the same line or on the next
-  pub line-turns : (e : ℕ) (p : Place) (name f : Bytes) → move-at s lang (at .st .offset) ≡ Line e → p ≡ next-line at e
+  pub line-turns : (e : ℕ) (p : Cursor) (name f : Bytes) → move-at s lang (at .st .offset) ≡ Line e → p ≡ next-line at e
       → Turns s name f (contents-turn s lang from (header-of s header) (at .st)) (Again p)
   line-turns e p name f q c =
       move-turns s from (header-of s header) (at .st) name f lang (Line e) (Again p) q (rw c (refl, known-line s (at .st) e))
 
-  pub on-turns : (e : ℕ) (p : Place) (name f : Bytes) → move-at s lang (at .st .offset) ≡ On e → p ≡ moved at e
+  pub on-turns : (e : ℕ) (p : Cursor) (name f : Bytes) → move-at s lang (at .st .offset) ≡ On e → p ≡ moved at e
       → Turns s name f (contents-turn s lang from (header-of s header) (at .st)) (Again p)
   on-turns e p name f q c =
       move-turns s from (header-of s header) (at .st) name f lang (On e) (Again p) q
@@ -152,15 +152,15 @@ module _ (s : Bytes) (header : Header) (from : ℕ) (at : Place) (h : InBlob s h
 -- ---- the reader's loop
 
 -- the reader stands in the blob, and what is still to be read gives what the whole gives
-pub record Reading (s : Bytes) (header : Header) (lang : Bool) (from : ℕ) (first here : Place) : Type 0 where
+pub record Reading (s : Bytes) (header : Header) (lang : Bool) (from : ℕ) (first here : Cursor) : Type 0 where
   pub inside : InBlob s header from here
   pub same : contents-from s lang from (header-of s header) (here .st) ≡ contents s lang (header-of s header) (first .st)
 
-pub reading-starts : {s : Bytes} {header : Header} {lang : Bool} {first : Place} → InBlob s header (first .st .offset) first
+pub reading-starts : {s : Bytes} {header : Header} {lang : Bool} {first : Cursor} → InBlob s header (first .st .offset) first
     → Reading s header lang (first .st .offset) first first
 reading-starts {s} {header} {lang} {first} h = record { inside = h; same = sym (contents-is s lang (header-of s header) (first .st)) }
 
-module _ {s : Bytes} {header : Header} {lang : Bool} {from : ℕ} {first here : Place} where
+module _ {s : Bytes} {header : Header} {lang : Bool} {from : ℕ} {first here : Cursor} where
   module _ (k : Reading s header lang from first here) (name f : Bytes) where
     -- what a turn has read is the whole
     pub reading-ends : (r : Read) → Turns s name f (contents-turn s lang from (header-of s header) (here .st)) (Done r)
@@ -171,7 +171,7 @@ module _ {s : Bytes} {header : Header} {lang : Bool} {from : ℕ} {first here : 
         (turned-done s name f (contents-turn s lang from (header-of s header) (here .st)) (contents-from s lang from (header-of s header)) r t)
 
     -- a turn that goes on reads something, and stands in the blob again
-    pub reading-goes-on : (p : Place) → Turns s name f (contents-turn s lang from (header-of s header) (here .st)) (Again p)
+    pub reading-goes-on : (p : Cursor) → Turns s name f (contents-turn s lang from (header-of s header) (here .st)) (Again p)
         → Reading s header lang from first p × (length s - p .st .offset < length s - here .st .offset)
     reading-goes-on p t =
         let stands = k .inside .standing .stands in

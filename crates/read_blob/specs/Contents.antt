@@ -13,7 +13,7 @@ use Rattle.definition.specs.Item.{Step, blob-tok}
 use Rattle.definition.specs.Blob as source
 use Rattle.definition.specs.declared.State.{State}
 use Rattle.reader.specs.Standing.{Standing}
-use Rattle.reader.specs.declared.Place.{Place}
+use Rattle.reader.specs.declared.Cursor.{Cursor}
 use Rattle.read_blob.specs.declared.Header.{Header}
 use Rattle.read_blob.specs.declared.Move.{Move}
 use Rattle.read_blob.specs.declared.Move.the-variants.{Close, Open, Line, On}
@@ -49,7 +49,7 @@ does s lang from h st (Line e) = again (new-line (advance st e))
 does s lang from h st (On e) = again (advance st e)
 
 -- where the reader of a blob stands
-pub record InBlob (s : Bytes) (header : Header) (from : ℕ) (at : Place) : Type 0 where
+pub record InBlob (s : Bytes) (header : Header) (from : ℕ) (at : Cursor) : Type 0 where
   pub standing : Standing s (at .st) (at .known)
   pub between : at .st .mode ≡ 0
   pub begun : from ≤ at .st .offset

@@ -10,12 +10,12 @@ use definition::Pos;
 use match_lit::match_lit;
 use matchers::match_newline;
 use position::pos_of;
+use reader::Cursor;
 use reader::Payload;
-use reader::Place;
 use reader::Read;
 use reader::Turned;
-use reader::places::moved;
-use reader::places::next_line;
+use reader::cursors::moved;
+use reader::cursors::next_line;
 use reader::span;
 use reader::tokens::error_here;
 use star::stops::after;
@@ -120,7 +120,7 @@ fn kind_of(lang: bool) -> u32
 }
 
 // The blob whose contents began at `from` and end where the reader stands; reading goes on at e.
-fn closed(text: &[u8], header: Header, lang: bool, from: usize, at: Place, e: usize) -> Read
+fn closed(text: &[u8], header: Header, lang: bool, from: usize, at: Cursor, e: usize) -> Read
     requires { ⌜ InBlob (now text) header from at × Stands (now text) (advance (at .st) e) ⌝ }
     ensures { λ r. ⌜ ((name f : Bytes) → Reads (now (text .entry)) name f (blob-step (now (text .entry)) lang from (header-of (now (text .entry)) header) (at .st) e) r) ⌝ }
 {
@@ -162,7 +162,7 @@ fn closed(text: &[u8], header: Header, lang: bool, from: usize, at: Place, e: us
 }
 
 // One turn of the reading.
-fn turn(text: &[u8], name: &[u8], header: Header, lang: bool, from: usize, at: Place) -> Turned
+fn turn(text: &[u8], name: &[u8], header: Header, lang: bool, from: usize, at: Cursor) -> Turned
     requires { ⌜ InBlob (now text) header from at ⌝ }
     ensures { λ r. ⌜ ((f : Bytes) → Turns (now (text .entry)) (now (name .entry)) f (contents-turn (now (text .entry)) lang from (header-of (now (text .entry)) header) (at .st)) r) ⌝ }
 {
@@ -177,7 +177,7 @@ fn turn(text: &[u8], name: &[u8], header: Header, lang: bool, from: usize, at: P
 }
 
 // Reads the contents from where the state stands.
-fn read_contents(text: &[u8], name: &[u8], header: Header, lang: bool, at: Place) -> Read
+fn read_contents(text: &[u8], name: &[u8], header: Header, lang: bool, at: Cursor) -> Read
     requires { ⌜ InBlob (now text) header (at .st .offset) at ⌝ }
     ensures { λ r. ⌜ ((f : Bytes) → Reads (now (text .entry)) (now (name .entry)) f (contents (now (text .entry)) lang (header-of (now (text .entry)) header) (at .st)) r) ⌝ }
 {
@@ -197,7 +197,7 @@ fn read_contents(text: &[u8], name: &[u8], header: Header, lang: bool, at: Place
 }
 
 // The source's `blob`, from behind its header.
-pub fn blob(text: &[u8], name: &[u8], header: Header, at: Place) -> Read
+pub fn blob(text: &[u8], name: &[u8], header: Header, at: Cursor) -> Read
     requires { ⌜ InBlob (now text) header (at .st .offset) at ⌝ }
     ensures { λ r. ⌜ ((f : Bytes) → Reads (now (text .entry)) (now (name .entry)) f (blob (now (text .entry)) (header-of (now (text .entry)) header) (at .st)) r) ⌝ }
 {
@@ -205,7 +205,7 @@ pub fn blob(text: &[u8], name: &[u8], header: Header, at: Place) -> Read
 }
 
 // The source's `use_lang`, from behind its header.
-pub fn use_lang(text: &[u8], name: &[u8], header: Header, at: Place) -> Read
+pub fn use_lang(text: &[u8], name: &[u8], header: Header, at: Cursor) -> Read
     requires { ⌜ InBlob (now text) header (at .st .offset) at ⌝ }
     ensures { λ r. ⌜ ((f : Bytes) → Reads (now (text .entry)) (now (name .entry)) f (use-lang (now (text .entry)) (header-of (now (text .entry)) header) (at .st)) r) ⌝ }
 {

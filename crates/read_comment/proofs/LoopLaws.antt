@@ -14,7 +14,7 @@ use Rattle.laws_progress.proofs.Fuel.{comment-unroll}
 use Rattle.laws_run.proofs.Moving.{stands-clean}
 use Rattle.laws_run.proofs.TurnsSound.{comment-turn-stands}
 use Rattle.reader.specs.Described.{Reads}
-use Rattle.reader.specs.declared.Place.{Place}
+use Rattle.reader.specs.declared.Cursor.{Cursor}
 use Rattle.reader.specs.declared.Read.{Read}
 use Rattle.reader.specs.declared.Turned.{Turned}
 use Rattle.reader.specs.declared.Turned.the-variants.{Done, Again}
@@ -23,14 +23,14 @@ use Rattle.read_comment.specs.LineCommentContracts.{ReadsAny}
 use Rattle.read_comment.specs.CommentContracts.{InComment, TurnsAny}
 
 -- here, in the comment, what is to be read is what was to be read at first
-pub record Going (s : Bytes) (from : ℕ) (first here : Place) : Type 0 where
+pub record Going (s : Bytes) (from : ℕ) (first here : Cursor) : Type 0 where
   pub inside : InComment s here
   pub same : comment s from (here .st) ≡ comment s from (first .st)
 
-pub going-starts : {s : Bytes} (from : ℕ) {at : Place} → InComment s at → Going s from at at
+pub going-starts : {s : Bytes} (from : ℕ) {at : Cursor} → InComment s at → Going s from at at
 going-starts from h = record { inside = h; same = refl }
 
-module _ {s : Bytes} {from : ℕ} {first here : Place} (g : Going s from first here) where
+module _ {s : Bytes} {from : ℕ} {first here : Cursor} (g : Going s from first here) where
   clean : Clean s (here .st .offset)
   clean = stands-clean (g .inside .standing .stands)
 
@@ -50,7 +50,7 @@ module _ {s : Bytes} {from : ℕ} {first here : Place} (g : Going s from first h
       (comment-turn-stands s from (here .st) (g .inside .standing .stands) (g .inside .mode))
       (comment-falls s from .at (here .st) clean)
 
-  module _ {m : Turned} {p : Place} (e : m ≡ Again p) (h : TurnsAny s (comment-turn s from (here .st)) m) where
+  module _ {m : Turned} {p : Cursor} (e : m ≡ Again p) (h : TurnsAny s (comment-turn s from (here .st)) m) where
     on : GoesOn s [] [] Kept (comment-turn s from (here .st)) (comment s from) p
     on = turned-again s [] [] Kept Any (comment-turn s from (here .st)) (comment s from) p kept ((rw e at h) [] [])
 

@@ -16,7 +16,7 @@ use Rattle.position.specs.declared.Cache.{Cache}
 use Rattle.position.specs.declared.Located.{Located}
 use Rattle.position.proofs.Counting.{known-again}
 use Rattle.reader.specs.Described.{trimmed, Known-at}
-use Rattle.reader.specs.declared.Place.{Place}
+use Rattle.reader.specs.declared.Cursor.{Cursor}
 use Rattle.reader.specs.declared.Payload.the-variants.{Piece}
 use Rattle.reader.proofs.Standing.{known-kept}
 use Rattle.trim_lines.specs.Trimming.{piece}
@@ -31,7 +31,7 @@ unfolding close-comment
 known-close {s} {st} {known} k =
     by-lt (λ b. Known-at s b known) 1 (st .depth) (λ _. known-kept st _ refl refl k) (λ _. known-kept st _ refl refl k)
 
-module _ {s : Bytes} {to : ℕ} {at : Place} (from : ℕ) (h : Ending s to at) where
+module _ {s : Bytes} {to : ℕ} {at : Cursor} (from : ℕ) (h : Ending s to at) where
   -- A trimmed piece is short.
   pub piece-short : (width : ℕ) {n : ℕ} → n ≡ length (trimmed width (piece s from to)) → n ≤ 1048578
   piece-short width e =

@@ -22,7 +22,7 @@ use Rattle.laws_run.proofs.Moving.{stands-within}
 use Rattle.position.specs.Columns.{Asked, located}
 use Rattle.position.specs.declared.Located.{Located}
 use Rattle.position.proofs.Counting.{known-again}
-use Rattle.reader.specs.declared.Place.{Place}
+use Rattle.reader.specs.declared.Cursor.{Cursor}
 use Rattle.reader.specs.declared.Payload.the-variants.{Part}
 use Rattle.reader.proofs.Standing.{asks, known-kept, stays}
 use Rattle.read_comment.specs.LineCommentContracts.{Behind, ReadsAny}
@@ -39,7 +39,7 @@ pub record LineEnd (s : Bytes) (st : State) (to : ℕ) : Type 0 where
   pub within : to ≤ length s
   pub fits : to ≤ 1048576
 
-module _ {s : Bytes} {from to : ℕ} {at : Place} (h : Behind s from at) (e : to ≡ star (goes-on (ch "\n") (ch "\n")) s (at .st .offset)) where
+module _ {s : Bytes} {from to : ℕ} {at : Cursor} (h : Behind s from at) (e : to ≡ star (goes-on (ch "\n") (ch "\n")) s (at .st .offset)) where
   -- A line's comment ends there.
   pub line-ends : LineEnd s (at .st) to
   line-ends =

@@ -19,8 +19,8 @@ use Rattle.laws_progress.proofs.Comments.{after-walks, two-onward}
 use Rattle.star.specs.Stops.{goes-on}
 use Rattle.laws_run.proofs.Moving.{walk-stands}
 use Rattle.reader.specs.Described.{Known-at}
-use Rattle.reader.specs.Places.{moved, next-line}
-use Rattle.reader.specs.declared.Place.{Place}
+use Rattle.reader.specs.Cursors.{moved, next-line}
+use Rattle.reader.specs.declared.Cursor.{Cursor}
 use Rattle.reader.specs.declared.Read.{Read}
 use Rattle.reader.specs.declared.Turned.the-variants.{Done, Again}
 use Rattle.reader.proofs.Standing.{known-line, known-kept}
@@ -31,7 +31,7 @@ use Rattle.read_comment.proofs.Small.{small}
 -- ---- what a turn gives
 
 -- It goes on at a place whose column is known.
-turns-again : {s : Bytes} (t : Turn State Step) (p : Place) → t ≡ again (p .st) → Known-at s (p .st) (p .known) → TurnsAny s t (Again p)
+turns-again : {s : Bytes} (t : Turn State Step) (p : Cursor) → t ≡ again (p .st) → Known-at s (p .st) (p .known) → TurnsAny s t (Again p)
 turns-again t p e k name f = rw e (refl, k)
 
 -- Or it has read what the definition's turn answers.
@@ -45,13 +45,13 @@ comment-run : (s : Bytes) (i : ℕ) → star (goes-on (ch "(") (ch "*")) s i ≡
 unfolding comment-stop
 comment-run s i = refl
 
-module _ {s : Bytes} {at : Place} (h : InComment s at) {j : ℕ} (e : j ≡ star (goes-on (ch "(") (ch "*")) s (at .st .offset)) where
+module _ {s : Bytes} {at : Cursor} (h : InComment s at) {j : ℕ} (e : j ≡ star (goes-on (ch "(") (ch "*")) s (at .st .offset)) where
   -- It ends within the text.
   pub run-within : j ≤ length s
   run-within = omega (arith, walk-within (star-walks (goes-on (ch "(") (ch "*")) s (at .st .offset)) (small (h .standing .stands) .within))
 
   -- It is passed.
-  pub turns-run : (from : ℕ) {p : Place} → at .st .offset < j → p ≡ moved at j → TurnsAny s (comment-turn s from (at .st)) (Again p)
+  pub turns-run : (from : ℕ) {p : Cursor} → at .st .offset < j → p ≡ moved at j → TurnsAny s (comment-turn s from (at .st)) (Again p)
   turns-run from l q =
       let r : j ≡ run-end comment-stop s (at .st .offset) = e ∙ comment-run s (at .st .offset) in
       let t : ltb (at .st .offset) (run-end comment-stop s (at .st .offset)) ≡ true = lt-ltb _ _ (rw r at l) in
@@ -63,32 +63,32 @@ module _ {s : Bytes} {at : Place} (h : InComment s at) {j : ℕ} (e : j ≡ star
 
 -- ---- where none stands
 
-module _ {s : Bytes} {at : Place} (h : AtStop s at) where
+module _ {s : Bytes} {at : Cursor} (h : AtStop s at) where
   none : ltb (at .st .offset) (run-end comment-stop s (at .st .offset)) ≡ false
   none = le-ltb _ _ (h .stop)
 
   -- A level is opened.
-  pub turns-open : (from : ℕ) {p : Place} {b : State} → byte-is (ch "(") s (at .st .offset) && byte-is (ch "*") s (at .st .offset + 1) ≡ true
+  pub turns-open : (from : ℕ) {p : Cursor} {b : State} → byte-is (ch "(") s (at .st .offset) && byte-is (ch "*") s (at .st .offset + 1) ≡ true
       → p ≡ moved at (at .st .offset + 2) → b ≡ deeper (p .st) → TurnsAny s (comment-turn s from (at .st)) (Again (record { st = b; known = p .known }))
   turns-open from t p q =
       rw (q, p)
       (turns-again (comment-turn s from (at .st)) _ (simp (none, t, comment-turn)) (known-kept (at .st) _ refl refl (h .inside .standing .cached)))
 
   -- A line ends.
-  pub turns-line : (from : ℕ) {nl : ℕ} {p : Place} → byte-is (ch "(") s (at .st .offset) && byte-is (ch "*") s (at .st .offset + 1) ≡ false
+  pub turns-line : (from : ℕ) {nl : ℕ} {p : Cursor} → byte-is (ch "(") s (at .st .offset) && byte-is (ch "*") s (at .st .offset + 1) ≡ false
       → match-newline s (at .st .offset) ≡ To nl → p ≡ next-line at nl → TurnsAny s (comment-turn s from (at .st)) (Again p)
   turns-line from {nl} shut t p =
       rw p (turns-again (comment-turn s from (at .st)) (next-line at nl) (simp (none, shut, t, comment-turn)) (known-line s (at .st) nl))
 
 -- ---- where nothing is opened and no line ends
 
-module _ {s : Bytes} {at : Place} (h : AtMark s at) where
+module _ {s : Bytes} {at : Cursor} (h : AtMark s at) where
   -- The two bytes of a closing lie within the text.
   closing : byte-is (ch "*") s (at .st .offset) && byte-is (ch ")") s (at .st .offset + 1) ≡ true → Onward s (at .st .offset) (at .st .offset + 2)
   closing t = two-onward s (ch "*") (ch ")") (at .st .offset) (omega arith) (omega arith) t
 
   -- Behind them the piece has ended.
-  pub closed-ending : {p : Place} → byte-is (ch "*") s (at .st .offset) && byte-is (ch ")") s (at .st .offset + 1) ≡ true
+  pub closed-ending : {p : Cursor} → byte-is (ch "*") s (at .st .offset) && byte-is (ch ")") s (at .st .offset + 1) ≡ true
       → p ≡ moved at (at .st .offset + 2) → Ending s (at .st .offset) p
   closed-ending t e =
       let g = h .stopped .inside .standing in
@@ -103,7 +103,7 @@ module _ {s : Bytes} {at : Place} (h : AtMark s at) where
 
   module _ (from : ℕ) where
     -- A level is closed.
-    pub turns-closed : {p : Place} {r : Read} → byte-is (ch "*") s (at .st .offset) && byte-is (ch ")") s (at .st .offset + 1) ≡ true
+    pub turns-closed : {p : Cursor} {r : Read} → byte-is (ch "*") s (at .st .offset) && byte-is (ch ")") s (at .st .offset + 1) ≡ true
         → p ≡ moved at (at .st .offset + 2) → ReadsAny s (terminate s from (at .st .offset) true (p .st)) r → TurnsAny s (comment-turn s from (at .st)) (Done r)
     turns-closed t e k =
         let n = none (h .stopped) in
@@ -123,7 +123,7 @@ module _ {s : Bytes} {at : Place} (h : AtMark s at) where
           turns-done (comment-turn s from (at .st)) (simp (n, shut, line, close, t, comment-turn)) reads
 
       -- A character is passed.
-      pub turns-after : {k : ℕ} {p : Place} → at .st .offset < length s → k ≡ after s (at .st .offset) → p ≡ moved at k
+      pub turns-after : {k : ℕ} {p : Cursor} → at .st .offset < length s → k ≡ after s (at .st .offset) → p ≡ moved at k
           → TurnsAny s (comment-turn s from (at .st)) (Again p)
       turns-after {k} {p} m a e =
           let n = none (h .stopped) in

@@ -5,7 +5,7 @@ use Rattle.definition.specs.Basics.{Bytes}
 use Rattle.definition.specs.Item.{Step}
 use Rattle.reader.specs.Described.{Reads}
 use Rattle.reader.specs.Standing.{Standing}
-use Rattle.reader.specs.declared.Place.{Place}
+use Rattle.reader.specs.declared.Cursor.{Cursor}
 use Rattle.reader.specs.declared.Read.{Read}
 
 -- r is what the step t gives
@@ -13,6 +13,6 @@ abbrev pub ReadsAny : Bytes → Step → Read → Type 0
 ReadsAny s t r = (name f : Bytes) → Reads s name f t r
 
 -- a reader stands behind what began at `from`
-pub record Behind (s : Bytes) (from : ℕ) (at : Place) : Type 0 where
+pub record Behind (s : Bytes) (from : ℕ) (at : Cursor) : Type 0 where
   pub standing : Standing s (at .st) (at .known)
   pub order : from ≤ at .st .offset

@@ -14,12 +14,12 @@ use definition::Match;
 use match_lit::byte_is;
 use matchers::match_newline;
 use position::pos_of;
+use reader::Cursor;
 use reader::Payload;
-use reader::Place;
 use reader::Read;
 use reader::Turned;
-use reader::places::moved;
-use reader::places::next_line;
+use reader::cursors::moved;
+use reader::cursors::next_line;
 use star::stops::after;
 use star::stops::run_end;
 use state::close_comment;
@@ -44,7 +44,7 @@ fn byte_pair(text: &[u8], i: usize, a: u8, b: u8) -> bool
 }
 
 // The piece that began at byte `from` and whose text ends at byte `to`; the reader stands behind it.
-fn terminate(text: &[u8], from: usize, to: usize, closed: bool, at: Place) -> Read
+fn terminate(text: &[u8], from: usize, to: usize, closed: bool, at: Cursor) -> Read
     requires { ⌜ Ending (now text) to at ⌝ }
     ensures { λ r. ⌜ ReadsAny (now (text .entry)) (terminate (now (text .entry)) from to closed (at .st)) r ⌝ }
 {
@@ -81,7 +81,7 @@ fn terminate(text: &[u8], from: usize, to: usize, closed: bool, at: Place) -> Re
 
 // Where neither a run stands nor a level is opened nor a line ends: a level may be closed, or the text may end; else a
 // single `(` or `*` is passed.
-fn at_mark(text: &[u8], from: usize, at: Place) -> Turned
+fn at_mark(text: &[u8], from: usize, at: Cursor) -> Turned
     requires { ⌜ AtMark (now text) at ⌝ }
     ensures { λ r. ⌜ TurnsAny (now (text .entry)) (comment-turn (now (text .entry)) from (at .st)) r ⌝ }
 {
@@ -97,7 +97,7 @@ fn at_mark(text: &[u8], from: usize, at: Place) -> Turned
 }
 
 // Where no run of other characters stands: a level may be opened, or a line may end.
-fn at_stop(text: &[u8], from: usize, at: Place) -> Turned
+fn at_stop(text: &[u8], from: usize, at: Cursor) -> Turned
     requires { ⌜ AtStop (now text) at ⌝ }
     ensures { λ r. ⌜ TurnsAny (now (text .entry)) (comment-turn (now (text .entry)) from (at .st)) r ⌝ }
 {
@@ -107,7 +107,7 @@ fn at_stop(text: &[u8], from: usize, at: Place) -> Turned
         let inside = moved(at, i + 2);
         let opened = inside.st;
         let known = inside.known;
-        return Turned::Again(Place {
+        return Turned::Again(Cursor {
             st: opened.deeper(),
             known: known,
         });
@@ -119,7 +119,7 @@ fn at_stop(text: &[u8], from: usize, at: Place) -> Turned
 }
 
 // One turn of the reading: a run of other characters is passed whole.
-fn comment_turn(text: &[u8], from: usize, at: Place) -> Turned
+fn comment_turn(text: &[u8], from: usize, at: Cursor) -> Turned
     requires { ⌜ InComment (now text) at ⌝ }
     ensures { λ r. ⌜ TurnsAny (now (text .entry)) (comment-turn (now (text .entry)) from (at .st)) r ⌝ }
 {
@@ -133,7 +133,7 @@ fn comment_turn(text: &[u8], from: usize, at: Place) -> Turned
 }
 
 // The next piece of the comment that the reader stands in; the piece began at byte `from`.
-pub fn comment(text: &[u8], from: usize, at: Place) -> Read
+pub fn comment(text: &[u8], from: usize, at: Cursor) -> Read
     requires { ⌜ InComment (now text) at ⌝ }
     ensures { λ r. ⌜ ReadsAny (now (text .entry)) (comment (now (text .entry)) from (at .st)) r ⌝ }
 {

@@ -9,8 +9,8 @@ use definition::Extra;
 use definition::Item;
 use definition::State;
 use position::pos_of;
+use reader::Cursor;
 use reader::Payload;
-use reader::Place;
 use reader::Read;
 use reader::span;
 use star::stops::run_end;
@@ -31,7 +31,7 @@ fn one_more_comment(mut st: State) -> State
 }
 
 // The rest of the line from where the reader stands, and before it the bytes from `from` up to there.
-pub fn line_comment(text: &[u8], from: usize, at: Place) -> Read
+pub fn line_comment(text: &[u8], from: usize, at: Cursor) -> Read
     requires { ⌜ Behind (now text) from at ⌝ }
     ensures { λ r. ⌜ ReadsAny (now (text .entry)) (line-comment (now (text .entry)) (lexeme (now (text .entry)) from (at .st .offset)) (at .st)) r ⌝ }
 {

@@ -17,7 +17,7 @@ use Rattle.state.specs.Sound.{Stands}
 use Rattle.laws_progress.proofs.Literals.{string-from, string-unroll, string-is}
 use Rattle.laws_run.proofs.Moving.{stands-within}
 use Rattle.laws_run.proofs.TurnsSound.{string-turn-stands}
-use Rattle.reader.specs.declared.Place.{Place}
+use Rattle.reader.specs.declared.Cursor.{Cursor}
 use Rattle.reader.specs.declared.Read.{Read}
 use Rattle.reader.specs.declared.Turned.the-variants.{Done, Again}
 use Rattle.reader.specs.Described.{Known-at, Reads, Turns}
@@ -73,14 +73,14 @@ module _ (s name f : Bytes) (sp : Pos) (st : State) (acc : Bytes) where
   turn-done (done t) k r h = h
 
   -- what a turn that goes on at p says of it
-  record GoesOn (k : State × Bytes → Step) (m : Move) (p : Place) : Type 0 where
+  record GoesOn (k : State × Bytes → Step) (m : Move) (p : Cursor) : Type 0 where
     on : On m
     offset : p .st .offset ≡ ends-at (st .offset) m
     same : says (does s sp st acc m) k ≡ k (p .st, acc ++ adds s (st .offset) m)
     stands : Stands s (p .st) × (p .st .mode ≡ 0)
     known : Known-at s (p .st) (p .known)
 
-  module _ (k : State × Bytes → Step) (p : Place) where
+  module _ (k : State × Bytes → Step) (p : Cursor) where
     -- it goes on from b
     goes-on-from : (b : State) (m : Move) → On m → b .offset ≡ ends-at (st .offset) m → says (does s sp st acc m) k ≡ k (b, acc ++ adds s (st .offset) m)
         → Stands s b × (b .mode ≡ 0) → (p .st ≡ b) × Known-at s b (p .known) → GoesOn k m p
@@ -106,7 +106,7 @@ module _ (s name f : Bytes) (sp : Pos) (st : State) (acc : Bytes) where
 -- ---- the loop
 
 -- acc is read of the literal, and what is still to be read gives what the whole gives
-pub record Reading (s f : Bytes) (sp : Pos) (from count : ℕ) (first here : Place) : Type 0 where
+pub record Reading (s f : Bytes) (sp : Pos) (from count : ℕ) (first here : Cursor) : Type 0 where
   pub acc : Bytes
   pub standing : Standing s (here .st) (here .known)
   pub between : here .st .mode ≡ 0
@@ -114,7 +114,7 @@ pub record Reading (s f : Bytes) (sp : Pos) (from count : ℕ) (first here : Pla
   pub held : Held s f from (here .st .offset) count acc
 
 -- before the first turn
-pub reading-starts : {s f : Bytes} {sp : Pos} {at : Place} → Reader s f at → Reading s f sp (at .st .offset) 0 at at
+pub reading-starts : {s f : Bytes} {sp : Pos} {at : Cursor} → Reader s f at → Reading s f sp (at .st .offset) 0 at at
 reading-starts {s} {f} {sp} {at} h = record {
   acc = [];
   standing = h .standing;
@@ -124,12 +124,12 @@ reading-starts {s} {f} {sp} {at} h = record {
 }
 
 -- no count is larger than the text
-pub reading-small : {s f : Bytes} {sp : Pos} {from count : ℕ} {first here : Place} → Reading s f sp from count first here → count ≤ 1048576
+pub reading-small : {s f : Bytes} {sp : Pos} {from count : ℕ} {first here : Cursor} → Reading s f sp from count first here → count ≤ 1048576
 reading-small k =
     let h = k .held in
     omega (arith, h .counted, h .short, h .within, k .standing .stands .short)
 
-module _ {s f : Bytes} {sp : Pos} {from count : ℕ} {first here : Place} (k : Reading s f sp from count first here)
+module _ {s f : Bytes} {sp : Pos} {from count : ℕ} {first here : Cursor} (k : Reading s f sp from count first here)
     {m : Move} (e : m ≡ string-move s f (here .st .offset)) where
   -- the turn is what is done with the move
   turn-is : string-turn s f sp (here .st, k .acc) ≡ does s sp (here .st) (k .acc) m
@@ -158,7 +158,7 @@ module _ {s f : Bytes} {sp : Pos} {from count : ℕ} {first here : Place} (k : R
         (turn-done s name f sp (here .st) (k .acc) (does s sp (here .st) (k .acc) m) (string-from s f sp) r t)
 
     -- a turn that goes on reads something, and stands in the literal again
-    pub reading-goes-on : (p : Place) (n : ℕ) → n ≡ added (here .st .offset) m → Turns s name f (states (does s sp (here .st) (k .acc) m)) (Again p)
+    pub reading-goes-on : (p : Cursor) (n : ℕ) → n ≡ added (here .st .offset) m → Turns s name f (states (does s sp (here .st) (k .acc) m)) (Again p)
         → Reading s f sp from (count + n) first p × (length s - p .st .offset < length s - here .st .offset)
     reading-goes-on p n c t =
         let i = here .st .offset in

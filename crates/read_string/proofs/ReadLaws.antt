@@ -17,11 +17,11 @@ use Rattle.position.specs.declared.Located.{Located}
 use Rattle.laws_run.proofs.Moving.{stands-within}
 use Rattle.reader.specs.declared.Payload.{Payload}
 use Rattle.reader.specs.declared.Payload.the-variants.{Part, Literal}
-use Rattle.reader.specs.declared.Place.{Place}
+use Rattle.reader.specs.declared.Cursor.{Cursor}
 use Rattle.reader.specs.declared.Read.{Read}
 use Rattle.reader.specs.declared.Turned.{Turned}
 use Rattle.reader.specs.Described.{literal, Sized, Describes, Known-at, Reads, Turns}
-use Rattle.reader.specs.Places.{moved, next-line}
+use Rattle.reader.specs.Cursors.{moved, next-line}
 use Rattle.reader.specs.Standing.{Standing}
 use Rattle.reader.proofs.Standing.{known-asked, known-kept, known-line, position-kept}
 use Rattle.read_string.specs.declared.moves.Move.{Move}
@@ -52,7 +52,7 @@ module _ {from count : ℕ} where
 -- ---- the closing quote
 
 -- The token that is built there is the definition's.
-pub close-reads : {s name : Bytes} {count e : ℕ} {at : Place} {sp : Pos} {p : Payload} {r : Read} (end : Located) (next : State)
+pub close-reads : {s name : Bytes} {count e : ℕ} {at : Cursor} {sp : Pos} {p : Payload} {r : Read} (end : Located) (next : State)
     → Closing s count at e → end ≡ located s (at .st) e → next ≡ advance (at .st) e
     → ((s f bytes : Bytes) → Describes s name f p bytes → Known-at s next (end .known) → Reads s name f (tok (kind "STRING") bytes sp (end .pos) NoExtra next) r)
     → (f acc : Bytes) → Describes s name f p acc → Reads s name f (closed s acc sp (at .st) e) r
@@ -78,7 +78,7 @@ line-fits {s} st {e} h =
     let l : st .line + 1 ≤ 1000000 + e = h .sound .line in
     (omega (arith, h .short), omega (arith, h .short))
 
-module _ {s : Bytes} {at : Place} (h : Standing s (at .st) (at .known)) {e : ℕ} {p : Place} where
+module _ {s : Bytes} {at : Cursor} (h : Standing s (at .st) (at .known)) {e : ℕ} {p : Cursor} where
   -- what is known there
   pub on-known : p ≡ moved at e → (p .st ≡ advance (at .st) e) × Known-at s (advance (at .st) e) (p .known)
   on-known c = rw c (refl, known-kept (at .st) (advance (at .st) e) refl refl (h .cached))

@@ -11,7 +11,7 @@ use Rattle.definition.specs.declared.State.{State}
 use Rattle.lemmas.proofs.Loops.{Leads}
 use Rattle.state.specs.Sound.{Stands}
 use Rattle.reader.specs.Standing.{Standing}
-use Rattle.reader.specs.declared.Place.{Place}
+use Rattle.reader.specs.declared.Cursor.{Cursor}
 use Rattle.read_string.specs.declared.moves.Move.{Move}
 use Rattle.read_string.specs.Literal.{does, states}
 
@@ -20,19 +20,19 @@ abbrev pub Safe : Bytes → Pos → State → Move → Type 0
 Safe s sp st m = Leads (λ b. Stands s b × (b .mode ≡ 0)) (λ t. Stands s (t .next)) (states (does s sp st [] m))
 
 -- the closing quote ends at e
-pub record Closing (s : Bytes) (count : ℕ) (at : Place) (e : ℕ) : Type 0 where
+pub record Closing (s : Bytes) (count : ℕ) (at : Cursor) (e : ℕ) : Type 0 where
   pub standing : Standing s (at .st) (at .known)
   pub next : Stands s (advance (at .st) e)
   pub small : count < 4294967296
 
 -- m is done next
-pub record Turning (s : Bytes) (count : ℕ) (at : Place) (sp : Pos) (m : Move) : Type 0 where
+pub record Turning (s : Bytes) (count : ℕ) (at : Cursor) (sp : Pos) (m : Move) : Type 0 where
   pub standing : Standing s (at .st) (at .known)
   pub safe : Safe s sp (at .st) m
   pub small : count < 4294967296
 
 -- a literal begins, between comments; f is the class file
-pub record Reader (s f : Bytes) (at : Place) : Type 0 where
+pub record Reader (s f : Bytes) (at : Cursor) : Type 0 where
   pub accepted : class-check f ≡ 0
   pub standing : Standing s (at .st) (at .known)
   pub between : at .st .mode ≡ 0

@@ -13,12 +13,12 @@ use crate::moves::string_move;
 use definition::Extra;
 use definition::Pos;
 use position::pos_of;
+use reader::Cursor;
 use reader::Payload;
-use reader::Place;
 use reader::Read;
 use reader::Turned;
-use reader::places::moved;
-use reader::places::next_line;
+use reader::cursors::moved;
+use reader::cursors::next_line;
 use reader::span;
 use reader::tokens::error_here;
 use reader::tokens::token;
@@ -50,7 +50,7 @@ fn contents(from: usize, to: usize, count: usize) -> Payload
 }
 
 // The literal whose closing quote ends at e.
-fn close(text: &[u8], name: &[u8], from: usize, count: usize, at: Place, sp: Pos, e: usize) -> Read
+fn close(text: &[u8], name: &[u8], from: usize, count: usize, at: Cursor, sp: Pos, e: usize) -> Read
     requires { ⌜ Closing (now text) count at e ⌝ }
     ensures { λ r. ⌜ ((f acc : Bytes) → Held (now (text .entry)) f from (at .st .offset) count acc → literal (now (text .entry)) f from ≡ acc → Reads (now (text .entry)) (now (name .entry)) f (closed (now (text .entry)) acc sp (at .st) e) r) ⌝ }
 {
@@ -73,7 +73,7 @@ fn close(text: &[u8], name: &[u8], from: usize, count: usize, at: Place, sp: Pos
 }
 
 // One turn of the reading: what is done with what stands where the reader does.
-fn turn(text: &[u8], name: &[u8], from: usize, count: usize, at: Place, sp: Pos, m: Move) -> Turned
+fn turn(text: &[u8], name: &[u8], from: usize, count: usize, at: Cursor, sp: Pos, m: Move) -> Turned
     requires { ⌜ Turning (now text) count at sp m ⌝ }
     ensures { λ r. ⌜ ((f acc : Bytes) → string-move (now (text .entry)) f (at .st .offset) ≡ m → Held (now (text .entry)) f from (at .st .offset) count acc → Turns (now (text .entry)) (now (name .entry)) f (states (does (now (text .entry)) sp (at .st) acc m)) r) ⌝ }
 {
@@ -91,7 +91,7 @@ fn turn(text: &[u8], name: &[u8], from: usize, count: usize, at: Place, sp: Pos,
 }
 
 // The source's `string_lit`, from behind the opening quote; sp is where that stands.
-pub fn string_lit(text: &[u8], name: &[u8], classes: &[u8], at: Place, sp: Pos) -> Read
+pub fn string_lit(text: &[u8], name: &[u8], classes: &[u8], at: Cursor, sp: Pos) -> Read
     requires { ⌜ Reader (now text) (now classes) at ⌝ }
     ensures { λ r. ⌜ Reads (now (text .entry)) (now (name .entry)) (now (classes .entry)) (string-lit (now (text .entry)) (now (classes .entry)) (at .st) sp) r ⌝ }
 {

@@ -5,5 +5,5 @@ pub mod Describing
 pub mod Short
 pub mod Parts
 pub mod Spanning
-pub mod RulingBuilding
-pub mod RulingLaws
+pub mod ActionBuilding
+pub mod ActionLaws

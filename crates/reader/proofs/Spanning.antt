@@ -15,11 +15,11 @@ use Rattle.position.specs.declared.Cache.{Cache}
 use Rattle.laws_run.proofs.Moving.{walk-stands, stands-within}
 use Rattle.reader.specs.Described.{Sized, Describes}
 use Rattle.reader.specs.Standing.{Standing}
-use Rattle.reader.specs.declared.Place.{Place}
+use Rattle.reader.specs.declared.Cursor.{Cursor}
 use Rattle.reader.specs.declared.Payload.{Payload}
 use Rattle.reader.specs.declared.Payload.the-variants.{Part}
 use Rattle.reader.proofs.Standing.{asks, known-asked}
-use Rattle.reader.specs.Rulings.{Chose, Spans}
+use Rattle.reader.specs.Actions.{Chose, Spans}
 
 -- a reader that asked for the position of an offset of its line stands where it stood
 pub asked-stands : {s : Bytes} {st : State} {known : Cache} {i : ℕ} (there : Located) → Standing s st known → st .bol ≤ i → there ≡ located s st i → Standing s st (there .known)
@@ -32,7 +32,7 @@ nothing-describes s name f = record { is = refl; long = refl; inside = omega ari
 pub nothing-sized : {name : Bytes} → Sized name (Part 0 0)
 nothing-sized = record { listed = tt; small = omega arith }
 
-module _ {s : Bytes} {at : Place} {e : ℕ} (h : Chose s at e) where
+module _ {s : Bytes} {at : Cursor} {e : ℕ} (h : Chose s at e) where
   -- behind the choice reading stands
   pub behind : Stands s (advance (at .st) e)
   behind = walk-stands (h .standing .stands) (h .onward .walk)

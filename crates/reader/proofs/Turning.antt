@@ -6,7 +6,7 @@ use Rattle.definition.specs.Item.{Step}
 use Rattle.definition.specs.declared.State.{State}
 use Rattle.lemmas.proofs.Loops.{says, Leads}
 use Rattle.reader.specs.declared.Read.{Read}
-use Rattle.reader.specs.declared.Place.{Place}
+use Rattle.reader.specs.declared.Cursor.{Cursor}
 use Rattle.reader.specs.declared.Turned.the-variants.{Done, Again}
 use Rattle.reader.specs.Described.{Known-at, Reads, Turns}
 
@@ -17,12 +17,12 @@ module _ (s name f : Bytes) where
   turned-done (done t) k r h = h
 
   -- what a turn that goes on says of the place where it does, if turns lead to places of which P holds
-  pub record GoesOn (P : State → Type 0) (t : Turn State Step) (k : State → Step) (p : Place) : Type 0 where
+  pub record GoesOn (P : State → Type 0) (t : Turn State Step) (k : State → Step) (p : Cursor) : Type 0 where
     pub same : says t k ≡ k (p .st)
     pub known : Known-at s (p .st) (p .known)
     pub holds : P (p .st)
 
-  pub turned-again : (P : State → Type 0) (Q : Step → Type 0) (t : Turn State Step) (k : State → Step) (p : Place)
+  pub turned-again : (P : State → Type 0) (Q : Step → Type 0) (t : Turn State Step) (k : State → Step) (p : Cursor)
       → Leads P Q t → Turns s name f t (Again p) → GoesOn P t k p
   turned-again P Q (again b) k p l h = record {
     same = ap k (sym (h .0));

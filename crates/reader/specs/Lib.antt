@@ -1,4 +1,4 @@
 pub mod Described
 pub mod Standing
-pub mod Places
-pub mod Rulings
+pub mod Cursors
+pub mod Actions

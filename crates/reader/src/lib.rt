@@ -5,8 +5,8 @@
 // bytes a description stands for is `bytes-of` there, and those who answer a description prove that it describes the
 // payload (`Describes`).
 // Assumed: nothing but what each function's `requires` says.
-pub mod rulings; // rulings.rt: what a rule may say of a choice that is read whole: a token, an error or a line's comment
-pub mod places; // places.rt: where a reader stands after it reads on
+pub mod actions; // actions.rt: what a rule may say of a choice that is read whole: a token, an error or a line's comment
+pub mod cursors; // cursors.rt: where a reader stands after it reads on
 pub mod tokens; // tokens.rt: tokens and errors as readers answer them
 
 use definition::Item;
@@ -69,7 +69,7 @@ pub struct Read {
 }
 
 // Where a reader stands: a state, and a column that is known there.
-pub struct Place {
+pub struct Cursor {
     pub st: State,
     pub known: Cache,
 }
@@ -77,7 +77,7 @@ pub struct Place {
 // What a turn of a reader answers: what it has read, or where it goes on.
 pub enum Turned {
     Done(Read),
-    Again(Place),
+    Again(Cursor),
 }
 
 // How many bytes there are from `from` up to `to`.

@@ -1,4 +1,4 @@
--- Cleaned numbers, and rulings on numbers. Rests on the laws of parts.
+-- Cleaned numbers, and actions on numbers. Rests on the laws of parts.
 use Prim.Native.Nat.{ℕ, _+_, _-_, _≤_}
 use Prim.Native.String.{String}
 use native.Mathlib.Omega.{arith}
@@ -16,15 +16,15 @@ use Rattle.definition.specs.declared.State.{State}
 use Rattle.number_value.specs.CleaningContracts.{Cleaned}
 use Rattle.number_value.specs.declared.cleaning.Part.{Part as Span}
 use Rattle.reader.specs.Described.{Describes}
-use Rattle.reader.specs.declared.Place.{Place}
+use Rattle.reader.specs.declared.Cursor.{Cursor}
 use Rattle.reader.specs.declared.Payload.the-variants.{Part}
 use Rattle.reader.proofs.Describing.{part-describes}
-use Rattle.reader.specs.declared.rulings.Ruling.the-variants.{Token, Error}
-use Rattle.reader.specs.Rulings.{Chose, Spans, Rules}
+use Rattle.reader.specs.declared.actions.Action.the-variants.{Token, Error}
+use Rattle.reader.specs.Actions.{Chose, Spans, Rules}
 use Rattle.rule_numbers.specs.Cleaned.{CleanedAt}
 use Rattle.reader.proofs.Parts.{part-is, part-of-part}
 use Rattle.reader.proofs.Spanning.{nothing-describes, nothing-sized, part-sized, spans}
-use Rattle.reader.proofs.RulingLaws.{token-rules, error-rules}
+use Rattle.reader.proofs.ActionLaws.{token-rules, error-rules}
 
 -- the part that is left of a lexeme is a part of the text
 pub cleaned-at : {s : Bytes} {i e : ℕ} {p : Span} → i ≤ e → e ≤ length s → Cleaned (take (e - i) (drop i s)) p
@@ -48,7 +48,7 @@ big-test : {s : Bytes} {i e : ℕ} {p : Span} {t : Bool} → CleanedAt s i e p �
     → ltb 255 (int-of-string (clean-number (lexeme s i e))) ≡ t
 big-test {s} {i} {e} {p} c q = sym (q ∙ ap (λ (n : Bytes). ltb 255 (int-of-string n)) (part-is (p .from) (p .to) s (c .ordered) ∙ c .is))
 
-module _ {s : Bytes} {at : Place} {e : ℕ} (h : Chose s at e) where
+module _ {s : Bytes} {at : Cursor} {e : ℕ} (h : Chose s at e) where
   abbrev st : State
   st = at .st
 

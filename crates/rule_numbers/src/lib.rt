@@ -1,20 +1,20 @@
 // Numbers. A number's text is its cleaned part, which is a part of the text.
 //
-// Proved: each function's ruling stands for what the definition's rule gives (crates/definition/specs/Token.antt): item,
+// Proved: each function's action stands for what the definition's rule gives (crates/definition/specs/Token.antt): item,
 // payload and state. No payload is copied: each is a part of the text.
 // Assumed: nothing but what each function's `requires` says: a reader stands in a sound state of a legal text, and the
 // choice ends behind it (`Chose`; `bad_number`, which isn't lent the text, promises what it does where that holds).
 use number_value::above_255;
 use number_value::cleaning::Part;
 use number_value::cleaning::clean_number;
+use reader::Cursor;
 use reader::Payload;
-use reader::Place;
-use reader::rulings::Ruling;
+use reader::actions::Action;
 ghost use Prim.Native.Nat.{_≤_};
 ghost use lib.ListN.{length};
 ghost use Rattle.definition.specs.Basics.{Bytes};
 ghost use Rattle.definition.specs.Token.{number, uint8, bad-number};
-ghost use Rattle.reader.specs.Rulings.{Chose, Rules, RulesOf};
+ghost use Rattle.reader.specs.Actions.{Chose, Rules, RulesOf};
 ghost use Rattle.rule_numbers.specs.Cleaned.{CleanedAt};
 
 const UINT8: u32 = 169;
@@ -32,7 +32,7 @@ fn cleaned(text: &[u8], i: usize, e: usize) -> Part
 }
 
 // A number of a kind.
-pub fn number(text: &[u8], at: Place, e: usize, kind: u32) -> Ruling
+pub fn number(text: &[u8], at: Cursor, e: usize, kind: u32) -> Action
     requires { ⌜ Chose (now text) at e ⌝ }
     ensures { λ r. ⌜ RulesOf (now (text .entry)) at e kind (number (now (text .entry)) (at .st) e) r ⌝ }
 {
@@ -43,7 +43,7 @@ pub fn number(text: &[u8], at: Place, e: usize, kind: u32) -> Ruling
         from: part.from,
         to: part.to,
     };
-    Ruling::Token {
+    Action::Token {
         kind: kind,
         from: i,
         end: e,
@@ -52,7 +52,7 @@ pub fn number(text: &[u8], at: Place, e: usize, kind: u32) -> Ruling
 }
 
 // A number of a byte; error 4 where it is too big.
-pub fn uint8(text: &[u8], at: Place, e: usize) -> Ruling
+pub fn uint8(text: &[u8], at: Cursor, e: usize) -> Action
     requires { ⌜ Chose (now text) at e ⌝ }
     ensures { λ r. ⌜ ((name : Bytes) → Rules (now (text .entry)) name at e (uint8 (now (text .entry)) (at .st) e) r) ⌝ }
 {
@@ -62,12 +62,12 @@ pub fn uint8(text: &[u8], at: Place, e: usize) -> Ruling
     let from = part.from;
     let to = part.to;
     if above_255(&text[from..to]) {
-        return Ruling::Error {
+        return Action::Error {
             number: 4,
             payload: Payload::Part { from: 0, to: 0 },
         };
     }
-    Ruling::Token {
+    Action::Token {
         kind: UINT8,
         from: i,
         end: e,
@@ -76,7 +76,7 @@ pub fn uint8(text: &[u8], at: Place, e: usize) -> Ruling
 }
 
 // Error 5: what begins like a number and is none, with its text.
-pub fn bad_number(at: Place, e: usize) -> Ruling
+pub fn bad_number(at: Cursor, e: usize) -> Action
     ensures { λ r. ⌜ ((s name : Bytes) → Chose s at e → Rules s name at e (bad-number s (at .st) e) r) ⌝ }
 {
     let st = at.st;
@@ -84,7 +84,7 @@ pub fn bad_number(at: Place, e: usize) -> Ruling
         from: st.offset as usize,
         to: e,
     };
-    Ruling::Error {
+    Action::Error {
         number: 5,
         payload: lexeme,
     }

@@ -1,4 +1,4 @@
--- What a line comment cuts off a choice, and rulings on what is left. Rests on the laws of cuts.
+-- What a line comment cuts off a choice, and actions on what is left. Rests on the laws of cuts.
 use Prim.Native.Nat.{ℕ, zero, suc, _+_, _-_, _≤_, _<_}
 use Prim.Native.String.{String}
 use native.Mathlib.Omega.{arith}
@@ -23,13 +23,13 @@ use Rattle.lemmas.proofs.Cases.{both}
 use Rattle.laws_progress.proofs.Cuts.{no-comment-walks}
 use Rattle.laws_run.proofs.Moving.{walk-stands, stands-within}
 use Rattle.reader.specs.Described.{Describes}
-use Rattle.reader.specs.declared.Place.{Place}
+use Rattle.reader.specs.declared.Cursor.{Cursor}
 use Rattle.reader.specs.declared.Payload.the-variants.{Part, Greater}
 use Rattle.reader.proofs.Describing.{part-describes}
-use Rattle.reader.specs.declared.rulings.Ruling.the-variants.{Token, LineComment}
-use Rattle.reader.specs.Rulings.{Chose, Spans, Rules}
+use Rattle.reader.specs.declared.actions.Action.the-variants.{Token, LineComment}
+use Rattle.reader.specs.Actions.{Chose, Spans, Rules}
 use Rattle.reader.proofs.Spanning.{part-sized, spans-to}
-use Rattle.reader.proofs.RulingLaws.{token-rules, line-rules}
+use Rattle.reader.proofs.ActionLaws.{token-rules, line-rules}
 
 -- the kind by whether something is left
 rest-some : (l : Bytes) (a b : ℕ) → 0 < length l → elim l [ [] ↦ a | x ∷ m ↦ b ] ≡ b
@@ -40,7 +40,7 @@ rest-none : (l : Bytes) (a b : ℕ) → length l ≡ 0 → elim l [ [] ↦ a | x
 rest-none [] a b h = refl
 rest-none (x ∷ l) a b h = absurd (omega arith)
 
-module _ {s : Bytes} {at : Place} {e : ℕ} (h : Chose s at e) where
+module _ {s : Bytes} {at : Cursor} {e : ℕ} (h : Chose s at e) where
   abbrev st : State
   st = at .st
 

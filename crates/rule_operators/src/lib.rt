@@ -1,13 +1,13 @@
 // What a line comment may cut: a token ends where two slashes stand in it.
 //
-// Proved: each function's ruling stands for what the definition's rule gives (crates/definition/specs/Token.antt): item,
+// Proved: each function's action stands for what the definition's rule gives (crates/definition/specs/Token.antt): item,
 // payload and state. No payload is copied: each is a part of the text, or a `>` and a part.
 // Assumed: nothing but what each function's `requires` says: a reader stands in a sound state of a legal text, and the
 // choice ends behind it (`Chose`).
 use match_lit::no_comment;
+use reader::Cursor;
 use reader::Payload;
-use reader::Place;
-use reader::rulings::Ruling;
+use reader::actions::Action;
 use table_kw_op::kw_op_kind;
 use table_kw_op::kw_op_length;
 use table_kw_op::kw_op_plain_kind;
@@ -15,12 +15,12 @@ ghost use Prim.Native.Nat.{_<_};
 ghost use Rattle.definition.specs.Basics.{Bytes};
 ghost use Rattle.definition.specs.Tables.{kw-op-rules};
 ghost use Rattle.definition.specs.Token.{entry, kw-op, gt, op};
-ghost use Rattle.reader.specs.Rulings.{Chose, Rules, RulesOf};
+ghost use Rattle.reader.specs.Actions.{Chose, Rules, RulesOf};
 
 const OPINFIX0C: u32 = 122;
 
 // A keyword and the operator characters behind it, or the keyword by itself where the cut leaves none of them.
-pub fn kw_op(text: &[u8], at: Place, e: usize, word: usize) -> Ruling
+pub fn kw_op(text: &[u8], at: Cursor, e: usize, word: usize) -> Action
     requires { ⌜ Chose (now text) at e × (word < 9) ⌝ }
     ensures { λ r. ⌜ ((name : Bytes) → Rules (now (text .entry)) name at e (kw-op (now (text .entry)) (at .st) e (entry kw-op-rules word)) r) ⌝ }
 {
@@ -30,14 +30,14 @@ pub fn kw_op(text: &[u8], at: Place, e: usize, word: usize) -> Ruling
     let from = i + kw_op_length(word);
     let rest = Payload::Part { from: from, to: to };
     if from < to {
-        return Ruling::Token {
+        return Action::Token {
             kind: kw_op_kind(word),
             from: i,
             end: to,
             payload: rest,
         };
     }
-    Ruling::Token {
+    Action::Token {
         kind: kw_op_plain_kind(word),
         from: i,
         end: to,
@@ -46,14 +46,14 @@ pub fn kw_op(text: &[u8], at: Place, e: usize, word: usize) -> Ruling
 }
 
 // `>` and symbol characters: the token begins behind the `>`, and its text has it.
-pub fn gt(text: &[u8], at: Place, e: usize) -> Ruling
+pub fn gt(text: &[u8], at: Cursor, e: usize) -> Action
     requires { ⌜ Chose (now text) at e ⌝ }
     ensures { λ r. ⌜ ((name : Bytes) → Rules (now (text .entry)) name at e (gt (now (text .entry)) (at .st) e) r) ⌝ }
 {
     let st = at.st;
     let j = st.offset as usize + 1;
     let to = no_comment(text, j, e);
-    Ruling::Token {
+    Action::Token {
         kind: OPINFIX0C,
         from: j,
         end: to,
@@ -62,7 +62,7 @@ pub fn gt(text: &[u8], at: Place, e: usize) -> Ruling
 }
 
 // An operator; cut to nothing it is a line's comment.
-pub fn op(text: &[u8], at: Place, e: usize, kind: u32) -> Ruling
+pub fn op(text: &[u8], at: Cursor, e: usize, kind: u32) -> Action
     requires { ⌜ Chose (now text) at e ⌝ }
     ensures { λ r. ⌜ RulesOf (now (text .entry)) at e kind (op (now (text .entry)) (at .st) e) r ⌝ }
 {
@@ -70,9 +70,9 @@ pub fn op(text: &[u8], at: Place, e: usize, kind: u32) -> Ruling
     let i = st.offset as usize;
     let left = no_comment(text, i, e);
     if left == i {
-        return Ruling::LineComment;
+        return Action::LineComment;
     }
-    Ruling::Token {
+    Action::Token {
         kind: kind,
         from: i,
         end: left,

@@ -13,16 +13,16 @@ use Rattle.definition.specs.declared.Extra.the-variants.{CharLit}
 use Rattle.position.specs.Columns.{located}
 use Rattle.position.specs.declared.Located.{Located}
 use Rattle.reader.specs.Described.{Describes, Known-at, Reads}
-use Rattle.reader.specs.declared.Place.{Place}
+use Rattle.reader.specs.declared.Cursor.{Cursor}
 use Rattle.reader.specs.declared.Payload.the-variants.{Part}
 use Rattle.reader.specs.declared.Read.{Read}
-use Rattle.reader.specs.Rulings.{Chose}
+use Rattle.reader.specs.Actions.{Chose}
 use Rattle.reader.proofs.Spanning.{nothing-describes, nothing-sized, spans}
-use Rattle.reader.proofs.RulingBuilding.{span-reads}
+use Rattle.reader.proofs.ActionBuilding.{span-reads}
 use Rattle.rule_readers.specs.Does.{Does}
 
 -- a character has no payload
-pub char-does : {s name : Bytes} {at : Place} {e : ℕ} {start end : Located} {next : State} {c : ℕ} {r : Read} → Chose s at e
+pub char-does : {s name : Bytes} {at : Cursor} {e : ℕ} {start end : Located} {next : State} {c : ℕ} {r : Read} → Chose s at e
     → start ≡ located s (at .st) (at .st .offset) → end ≡ located s (at .st) e → next ≡ advance (at .st) e → c ≡ unescape s (at .st .offset + 1)
     → ((t f bytes : Bytes) → Describes t name f (Part 0 0) bytes → Known-at t next (end .known) → Reads t name f (tok (kind "CHAR") bytes (start .pos) (end .pos) (CharLit c) next) r)
     → Does s name (char-lit s (at .st) e) r

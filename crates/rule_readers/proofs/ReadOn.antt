@@ -19,8 +19,8 @@ use Rattle.position.specs.declared.Located.{Located}
 use Rattle.laws_run.proofs.Moving.{open-stands}
 use Rattle.reader.specs.Described.{Reads}
 use Rattle.reader.specs.Standing.{Standing}
-use Rattle.reader.specs.Places.{moved}
-use Rattle.reader.specs.declared.Place.{Place}
+use Rattle.reader.specs.Cursors.{moved}
+use Rattle.reader.specs.declared.Cursor.{Cursor}
 use Rattle.reader.specs.declared.Read.{Read}
 use Rattle.reader.proofs.Standing.{known-kept, known-asked}
 use Rattle.read_comment.specs.LineCommentContracts.{Behind, ReadsAny}
@@ -28,11 +28,11 @@ use Rattle.read_comment.specs.CommentContracts.{InComment}
 use Rattle.read_string.specs.Contracts.{Reader}
 use Rattle.read_blob.specs.Contents.{header-of, InBlob}
 use Rattle.read_blob.specs.declared.Header.{Header}
-use Rattle.reader.specs.Rulings.{Chose}
+use Rattle.reader.specs.Actions.{Chose}
 use Rattle.reader.proofs.Spanning.{behind}
 use Rattle.rule_readers.specs.Names.{Names}
 
-module _ {s : Bytes} {at : Place} {e : ℕ} (h : Chose s at e) where
+module _ {s : Bytes} {at : Cursor} {e : ℕ} (h : Chose s at e) where
   -- behind the choice a reader stands with what is known already
   pub stands-behind : Standing s (advance (at .st) e) (at .known)
   stands-behind = record { stands = behind h; cached = known-kept (at .st) (advance (at .st) e) refl refl (h .standing .cached) }
@@ -61,7 +61,7 @@ module _ {s : Bytes} {at : Place} {e : ℕ} (h : Chose s at e) where
 
   -- ---- line comments, literals and blobs
 
-  module _ {place : Place} (q : place ≡ moved at e) where
+  module _ {place : Cursor} (q : place ≡ moved at e) where
     -- a line's comment is read from behind its slashes on
     pub behind-slashes : Behind s (at .st .offset) place
     behind-slashes = rw q (record { standing = stands-behind; order = omega (arith, h .onward .past) })
@@ -69,7 +69,7 @@ module _ {s : Bytes} {at : Place} {e : ℕ} (h : Chose s at e) where
     pub slashes-read : {r : Read} → ReadsAny s (source.line-comment s (lexeme s (at .st .offset) (place .st .offset)) (place .st)) r
         → ReadsAny s (source.line-comment s (lexeme s (at .st .offset) e) (advance (at .st) e)) r
     slashes-read {r} d name f =
-        subst (λ (b : Place). Reads s name f (source.line-comment s (lexeme s (at .st .offset) (b .st .offset)) (b .st)) r) q (d name f)
+        subst (λ (b : Cursor). Reads s name f (source.line-comment s (lexeme s (at .st .offset) (b .st .offset)) (b .st)) r) q (d name f)
 
     pub before-literal : {f : Bytes} → class-check f ≡ 0 → Reader s f place
     before-literal c = rw q (record { accepted = c; standing = stands-behind; between = h .between })
@@ -90,7 +90,7 @@ module _ {s : Bytes} {at : Place} {e : ℕ} (h : Chose s at e) where
           → Reads s name f (read (header-of s hd) (place .st)) r → Reads s name f (read (header s (at .st) e n) (advance (at .st) e)) r
       blob-reads {name} {f} {r} read d =
           subst (λ (x : blob-source.Header). Reads s name f (read x (advance (at .st) e)) r) (m .is)
-          (subst (λ (b : Place). Reads s name f (read (header-of s hd) (b .st)) r) q d)
+          (subst (λ (b : Cursor). Reads s name f (read (header-of s hd) (b .st)) r) q d)
 
   -- a header has both of the choice's positions
   pub header-names : {start end : Located} (n : ℕ) → start ≡ located s (at .st) (at .st .offset) → end ≡ located s (at .st) e

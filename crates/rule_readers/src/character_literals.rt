@@ -6,18 +6,18 @@
 use definition::Extra;
 use escapes::unescape;
 use position::pos_of;
+use reader::Cursor;
 use reader::Payload;
-use reader::Place;
 use reader::Read;
 use reader::tokens::token;
 ghost use Rattle.definition.specs.Token.{char-lit};
-ghost use Rattle.reader.specs.Rulings.{Chose};
+ghost use Rattle.reader.specs.Actions.{Chose};
 ghost use Rattle.rule_readers.specs.Does.{Does};
 
 const CHAR: u32 = 167;
 
 // A character, with its code point.
-pub fn char_lit(text: &[u8], name: &[u8], at: Place, e: usize) -> Read
+pub fn char_lit(text: &[u8], name: &[u8], at: Cursor, e: usize) -> Read
     requires { ⌜ Chose (now text) at e ⌝ }
     ensures { λ r. ⌜ Does (now (text .entry)) (now (name .entry)) (char-lit (now (text .entry)) (at .st) e) r ⌝ }
 {

@@ -12,9 +12,9 @@ use read_blob::use_lang;
 use read_comment::comment;
 use read_comment::line_comments::line_comment;
 use read_string::string_lit;
-use reader::Place;
+use reader::Cursor;
 use reader::Read;
-use reader::places::moved;
+use reader::cursors::moved;
 ghost use mathlib.Core.Path.{_≡_};
 ghost use Prim.Native.Nat.{_+_, _≤_};
 ghost use Rattle.definition.specs.Basics.{Bytes};
@@ -28,11 +28,11 @@ ghost use Rattle.definition.specs.Blob as blob-source;
 ghost use Rattle.definition.specs.Token.{header};
 ghost use Rattle.read_comment.specs.LineCommentContracts.{ReadsAny};
 ghost use Rattle.reader.specs.Described.{Reads};
-ghost use Rattle.reader.specs.Rulings.{Chose};
+ghost use Rattle.reader.specs.Actions.{Chose};
 ghost use Rattle.rule_readers.specs.Names.{Names};
 
 // A comment behind its opening.
-pub fn comment_start(text: &[u8], at: Place, e: usize) -> Read
+pub fn comment_start(text: &[u8], at: Cursor, e: usize) -> Read
     requires { ⌜ Chose (now text) at e ⌝ }
     ensures { λ r. ⌜ ReadsAny (now (text .entry)) (source.comment (now (text .entry)) (at .st .offset) (open-comment (advance (at .st) e) (cur-pos (now (text .entry)) (at .st)))) r ⌝ }
 {
@@ -40,7 +40,7 @@ pub fn comment_start(text: &[u8], at: Place, e: usize) -> Read
     let known = at.known;
     let here = pos_of(text, st, known, st.offset);
     let column = here.known;
-    let inside = Place {
+    let inside = Cursor {
         st: st.advance(e as u32).open_comment(here.pos),
         known: column,
     };
@@ -48,7 +48,7 @@ pub fn comment_start(text: &[u8], at: Place, e: usize) -> Read
 }
 
 // A line's comment behind its slashes.
-pub fn slashes(text: &[u8], at: Place, e: usize) -> Read
+pub fn slashes(text: &[u8], at: Cursor, e: usize) -> Read
     requires { ⌜ Chose (now text) at e ⌝ }
     ensures { λ r. ⌜ ReadsAny (now (text .entry)) (source.line-comment (now (text .entry)) (lexeme (now (text .entry)) (at .st .offset) e) (advance (at .st) e)) r ⌝ }
 {
@@ -57,7 +57,7 @@ pub fn slashes(text: &[u8], at: Place, e: usize) -> Read
 }
 
 // A string literal behind its quote.
-pub fn literal(text: &[u8], name: &[u8], classes: &[u8], at: Place, e: usize) -> Read
+pub fn literal(text: &[u8], name: &[u8], classes: &[u8], at: Cursor, e: usize) -> Read
     requires { ⌜ Chose (now text) at e × (class-check (now classes) ≡ 0) ⌝ }
     ensures { λ r. ⌜ Reads (now (text .entry)) (now (name .entry)) (now (classes .entry)) (string-lit (now (text .entry)) (now (classes .entry)) (advance (at .st) e) (cur-pos (now (text .entry)) (at .st))) r ⌝ }
 {
@@ -68,7 +68,7 @@ pub fn literal(text: &[u8], name: &[u8], classes: &[u8], at: Place, e: usize) ->
 }
 
 // The header of a blob whose name begins after n bytes.
-fn header_at(text: &[u8], at: Place, e: usize, n: usize) -> Header
+fn header_at(text: &[u8], at: Cursor, e: usize, n: usize) -> Header
     requires { ⌜ Chose (now text) at e × (n ≤ 6) ⌝ }
     ensures { λ r. ⌜ Names (now (text .entry)) (header (now (text .entry)) (at .st) e n) e r ⌝ }
 {
@@ -87,7 +87,7 @@ fn header_at(text: &[u8], at: Place, e: usize, n: usize) -> Header
 }
 
 // A blob between backticks.
-pub fn fenced(text: &[u8], name: &[u8], at: Place, e: usize) -> Read
+pub fn fenced(text: &[u8], name: &[u8], at: Cursor, e: usize) -> Read
     requires { ⌜ Chose (now text) at e ⌝ }
     ensures { λ r. ⌜ ((f : Bytes) → Reads (now (text .entry)) (now (name .entry)) f (blob-source.blob (now (text .entry)) (header (now (text .entry)) (at .st) e 3) (advance (at .st) e)) r) ⌝ }
 {
@@ -95,7 +95,7 @@ pub fn fenced(text: &[u8], name: &[u8], at: Place, e: usize) -> Read
 }
 
 // The text of another language.
-pub fn language(text: &[u8], name: &[u8], at: Place, e: usize) -> Read
+pub fn language(text: &[u8], name: &[u8], at: Cursor, e: usize) -> Read
     requires { ⌜ Chose (now text) at e ⌝ }
     ensures { λ r. ⌜ ((f : Bytes) → Reads (now (text .entry)) (now (name .entry)) f (blob-source.use-lang (now (text .entry)) (header (now (text .entry)) (at .st) e 6) (advance (at .st) e)) r) ⌝ }
 {

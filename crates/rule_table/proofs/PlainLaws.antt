@@ -14,14 +14,14 @@ use Rattle.definition.specs.declared.Choice.{Choice}
 use Rattle.table_entries.specs.Entries.{entries, texts}
 use Rattle.laws_run.proofs.Moving.{stands-within}
 use Rattle.laws_run.proofs.Sizes.{line-size}
-use Rattle.reader.specs.declared.Place.{Place}
+use Rattle.reader.specs.declared.Cursor.{Cursor}
 use Rattle.reader.specs.declared.Payload.{Payload}
 use Rattle.reader.specs.declared.Payload.the-variants.{Part, Text, Name, Line, FileLine}
 use Rattle.reader.proofs.Describing.{part-describes}
-use Rattle.reader.specs.Rulings.{Chose, Rules}
-use Rattle.reader.specs.declared.rulings.Ruling.the-variants.{Token}
+use Rattle.reader.specs.Actions.{Chose, Rules}
+use Rattle.reader.specs.declared.actions.Action.the-variants.{Token}
 use Rattle.reader.proofs.Spanning.{part-sized, nothing-describes, nothing-sized, spans}
-use Rattle.reader.proofs.RulingLaws.{token-rules}
+use Rattle.reader.proofs.ActionLaws.{token-rules}
 use Rattle.rule_words.proofs.Entries.{text-sized, text-describes, entry-text, stored-entry, op-tokens-stored, mixfix-stored}
 use Rattle.rule_table.specs.Keys.{Missing}
 use Rattle.rule_table.specs.Plain.{kind-of, table-kinds, plain-kind, plain-texts, plain-text, Gives}
@@ -72,10 +72,10 @@ unfolding texts entries keywords constructors uoperators op-tokens mixfix-rules
 last-text = refl
 
 -- lines have at most seven digits
-line-short : {s : Bytes} {at : Place} {e : ℕ} → Chose s at e → length (show (at .st .line)) ≤ 7
+line-short : {s : Bytes} {at : Cursor} {e : ℕ} → Chose s at e → length (show (at .st .line)) ≤ 7
 line-short {s} {at} h = line-size (at .st .line) (omega (arith, h .standing .stands .sound .line, stands-within (h .standing .stands), h .standing .stands .short))
 
-module _ {s : Bytes} (name : Bytes) {at : Place} {e : ℕ} (h : Chose s at e) (named : length name ≤ 4096) where
+module _ {s : Bytes} (name : Bytes) {at : Cursor} {e : ℕ} (h : Chose s at e) (named : length name ≤ 4096) where
   -- the name, the line, and both
   pub name-gives : Gives s name Name name
   name-gives = record { sized = record { listed = tt; small = omega arith }; describes = λ f. record { is = refl; long = refl; inside = tt } }
@@ -125,6 +125,6 @@ module _ {s : Bytes} (name : Bytes) {at : Place} {e : ℕ} (h : Chose s at e) (n
 
 -- ---- the token
 
-pub plain-rules : {s name : Bytes} {at : Place} {e : ℕ} {p : Payload} {k kd : ℕ} {bytes : Bytes} → Chose s at e → k ≡ kd → Gives s name p bytes
+pub plain-rules : {s name : Bytes} {at : Cursor} {e : ℕ} {p : Payload} {k kd : ℕ} {bytes : Bytes} → Chose s at e → k ≡ kd → Gives s name p bytes
     → Rules s name at e (finish s (at .st) e kd bytes) (Token k (at .st .offset) e p)
 plain-rules {s} {name} {at} {e} {p} {k} {kd} {bytes} h q g = token-rules bytes (g .describes) (spans h (g .sized)) (rw q refl)

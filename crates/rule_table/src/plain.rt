@@ -1,9 +1,9 @@
 // Tokens that their places and words decide: what they hold is told without a look at the text.
 use crate::table::kind_of;
 use definition::Choice;
+use reader::Cursor;
 use reader::Payload;
-use reader::Place;
-use reader::rulings::Ruling;
+use reader::actions::Action;
 use reader::span;
 use table_early::early_kind;
 use table_entries::kind_at;
@@ -12,7 +12,7 @@ ghost use Prim.Native.Nat.{_≤_};
 ghost use lib.ListN.{length};
 ghost use Rattle.definition.specs.Basics.{Bytes};
 ghost use Rattle.definition.specs.Token.{finish};
-ghost use Rattle.reader.specs.Rulings.{Chose, Rules};
+ghost use Rattle.reader.specs.Actions.{Chose, Rules};
 ghost use Rattle.rule_table.specs.Plain.{plain-kind, plain-text, Gives};
 ghost use Rattle.rule_table.specs.Tabled.{Tabled};
 
@@ -38,7 +38,7 @@ fn plain_kind(choice: Choice) -> u32
 }
 
 // The payload of a token that its place and word decide.
-fn plain_payload(at: Place, choice: Choice) -> Payload
+fn plain_payload(at: Cursor, choice: Choice) -> Payload
     requires { ⌜ Tabled choice ⌝ }
     ensures { λ r. ⌜ ((s name : Bytes) → Chose s at (choice .end) → length name ≤ 4096 → Gives s name r (plain-text s name (at .st) (choice .place) (choice .end) (choice .word))) ⌝ }
 {
@@ -66,14 +66,14 @@ fn plain_payload(at: Place, choice: Choice) -> Payload
 }
 
 // The token.
-pub fn plain(at: Place, choice: Choice) -> Ruling
+pub fn plain(at: Cursor, choice: Choice) -> Action
     requires { ⌜ Tabled choice ⌝ }
     ensures { λ r. ⌜ ((s name : Bytes) → Chose s at (choice .end) → length name ≤ 4096 → Rules s name at (choice .end) (finish s (at .st) (choice .end) (plain-kind (choice .place) (choice .word)) (plain-text s name (at .st) (choice .place) (choice .end) (choice .word))) r) ⌝ }
 {
     let st = at.st;
     let kind = plain_kind(choice);
     let payload = plain_payload(at, choice);
-    Ruling::Token {
+    Action::Token {
         kind: kind,
         from: st.offset as usize,
         end: choice.end,

@@ -2,7 +2,7 @@
 ghost use mathlib.Core.Path.{_≡_};
 ghost use Prim.Native.Nat.{_<_};
 ghost use Rattle.rule_table.specs.Plain.{kind-of};
-ghost use Rattle.rule_table.specs.Ruling.{rule-of};
+ghost use Rattle.rule_table.specs.Action.{rule-of};
 
 // The rules by their numbers, and that of no place.
 pub const NO_RULE: u32 = 0;

@@ -25,16 +25,16 @@ use Rattle.table_keywords.proofs.Finds.{entry-at, found}
 use Rattle.table_entries.specs.Entries.{entries, texts}
 use Rattle.table_entries.proofs.TextLaws.{short-at}
 use Rattle.reader.specs.Described.{Sized, Describes}
-use Rattle.reader.specs.declared.Place.{Place}
+use Rattle.reader.specs.declared.Cursor.{Cursor}
 use Rattle.reader.specs.declared.Payload.the-variants.{Part, Text}
 use Rattle.reader.proofs.Describing.{part-describes}
-use Rattle.reader.specs.declared.rulings.Ruling.{Ruling}
-use Rattle.reader.specs.declared.rulings.Ruling.the-variants.{Token, Error}
-use Rattle.reader.specs.Rulings.{Chose, Rules}
+use Rattle.reader.specs.declared.actions.Action.{Action}
+use Rattle.reader.specs.declared.actions.Action.the-variants.{Token, Error}
+use Rattle.reader.specs.Actions.{Chose, Rules}
 use Rattle.rule_words.specs.Worded.{worded, Placed}
 use Rattle.reader.proofs.Parts.{part-is}
 use Rattle.reader.proofs.Spanning.{nothing-describes, nothing-sized, part-sized, spans}
-use Rattle.reader.proofs.RulingLaws.{token-rules, error-rules, rules-same}
+use Rattle.reader.proofs.ActionLaws.{token-rules, error-rules, rules-same}
 
 -- ---- texts of the tables
 
@@ -144,13 +144,13 @@ module _ (s : Bytes) (st : State) (e : ℕ) where
 reserved-test : (s : Bytes) (i e : ℕ) {t : Bool} → i ≤ e → t ≡ starts-with (take (e - i) (drop i s)) reserved-prefix → starts-with (lexeme s i e) reserved-prefix ≡ t
 reserved-test s i e o q = sym (q ∙ ap (λ (id : Bytes). starts-with id reserved-prefix) (part-is i e s o))
 
-module _ {s : Bytes} {at : Place} {e : ℕ} (h : Chose s at e) where
+module _ {s : Bytes} {at : Cursor} {e : ℕ} (h : Chose s at e) where
   abbrev st : State
   st = at .st
 
   module _ (name : Bytes) where
-    -- a ruling on the word that a table has for the lexeme stands for what the definition gives
-    pub table-rules : {r : Ruling} (word : Word) (k n : ℕ) (table : List Entry) (x : String) → Stored n table → n + length table ≤ 180
+    -- an action on the word that a table has for the lexeme stands for what the definition gives
+    pub table-rules : {r : Action} (word : Word) (k n : ℕ) (table : List Entry) (x : String) → Stored n table → n + length table ≤ 180
         → word ≡ place n (take (e - st .offset) (drop (st .offset) s)) (spelled table) → k ≡ kind x
         → Rules s name at e (worded s st e word k) r → Rules s name at e (finish-word s st e table x) r
     table-rules word k n table x stored l q p d =
@@ -176,5 +176,5 @@ module _ {s : Bytes} {at : Place} {e : ℕ} (h : Chose s at e) where
       reserved-rules y =
           error-rules [] (λ f. nothing-describes s name f) nothing-sized (rw (ident, reserved-test s (st .offset) e (le-of-lt (h .onward .past)) q ∙ y) refl)
 
-      pub ident-rules : {r : Ruling} → t ≡ false → Rules s name at e (finish-word s st e keywords "IDENT") r → Rules s name at e (ident s st e) r
+      pub ident-rules : {r : Action} → t ≡ false → Rules s name at e (finish-word s st e keywords "IDENT") r → Rules s name at e (ident s st e) r
       ident-rules y d = rules-same (rw (ident, reserved-test s (st .offset) e (le-of-lt (h .onward .past)) q ∙ y) refl) d

@@ -1,12 +1,12 @@
 // Tokens that their lexemes decide.
 //
-// Proved: each function's ruling stands for what the definition's rule gives (crates/definition/specs/Token.antt): item,
+// Proved: each function's action stands for what the definition's rule gives (crates/definition/specs/Token.antt): item,
 // payload and state. No payload is copied: each is a part of the text or a text of the tables.
 // Assumed: nothing but what each function's `requires` says: a reader stands in a sound state of a legal text, and the
 // choice ends behind it (`Chose`; `worded`, which isn't lent the text, promises what it does where that holds).
+use reader::Cursor;
 use reader::Payload;
-use reader::Place;
-use reader::rulings::Ruling;
+use reader::actions::Action;
 use table_entries::kind_at;
 use table_keywords::Word;
 use table_keywords::constructors::constructor;
@@ -16,7 +16,7 @@ use table_keywords::uoperator;
 ghost use Rattle.definition.specs.Basics.{Bytes};
 ghost use Rattle.definition.specs.Tables.{constructors, uoperators};
 ghost use Rattle.definition.specs.Token.{ident, finish-word};
-ghost use Rattle.reader.specs.Rulings.{Chose, Rules};
+ghost use Rattle.reader.specs.Actions.{Chose, Rules};
 ghost use Rattle.rule_words.specs.Worded.{worded, Placed};
 
 const IDENT: u32 = 65;
@@ -26,20 +26,20 @@ const NAME: u32 = 119;
 const OPINFIX4: u32 = 160;
 
 // The token of a word of the tables; where it is none of them, the lexeme and the kind given.
-fn worded(at: Place, e: usize, word: Word, kind: u32) -> Ruling
+fn worded(at: Cursor, e: usize, word: Word, kind: u32) -> Action
     requires { ⌜ Placed word ⌝ }
     ensures { λ r. ⌜ ((s name : Bytes) → Chose s at e → Rules s name at e (worded s (at .st) e word kind) r) ⌝ }
 {
     let st = at.st;
     let i = st.offset as usize;
     match word {
-        Word::At(k) => Ruling::Token {
+        Word::At(k) => Action::Token {
             kind: kind_at(k),
             from: i,
             end: e,
             payload: Payload::Text(k),
         },
-        Word::Nowhere => Ruling::Token {
+        Word::Nowhere => Action::Token {
             kind: kind,
             from: i,
             end: e,
@@ -49,14 +49,14 @@ fn worded(at: Place, e: usize, word: Word, kind: u32) -> Ruling
 }
 
 // An identifier or a keyword; error 3 where its prefix is reserved.
-pub fn ident(text: &[u8], at: Place, e: usize) -> Ruling
+pub fn ident(text: &[u8], at: Cursor, e: usize) -> Action
     requires { ⌜ Chose (now text) at e ⌝ }
     ensures { λ r. ⌜ ((name : Bytes) → Rules (now (text .entry)) name at e (ident (now (text .entry)) (at .st) e) r) ⌝ }
 {
     let st = at.st;
     let i = st.offset as usize;
     if reserved(&text[i..e]) {
-        return Ruling::Error {
+        return Action::Error {
             number: 3,
             payload: Payload::Part { from: 0, to: 0 },
         };
@@ -65,7 +65,7 @@ pub fn ident(text: &[u8], at: Place, e: usize) -> Ruling
 }
 
 // The name of a constructor or of a module.
-pub fn capital_name(text: &[u8], at: Place, e: usize) -> Ruling
+pub fn capital_name(text: &[u8], at: Cursor, e: usize) -> Action
     requires { ⌜ Chose (now text) at e ⌝ }
     ensures { λ r. ⌜ ((name : Bytes) → Rules (now (text .entry)) name at e (finish-word (now (text .entry)) (at .st) e constructors "NAME") r) ⌝ }
 {
@@ -75,7 +75,7 @@ pub fn capital_name(text: &[u8], at: Place, e: usize) -> Ruling
 }
 
 // An operator beyond ASCII.
-pub fn unicode_operator(text: &[u8], at: Place, e: usize) -> Ruling
+pub fn unicode_operator(text: &[u8], at: Cursor, e: usize) -> Action
     requires { ⌜ Chose (now text) at e ⌝ }
     ensures { λ r. ⌜ ((name : Bytes) → Rules (now (text .entry)) name at e (finish-word (now (text .entry)) (at .st) e uoperators "OPINFIX4") r) ⌝ }
 {

@@ -1,4 +1,4 @@
--- What is built of a ruling is what it stands for. Rests on the definitions alone.
+-- What is built of an action is what it stands for. Rests on the definitions alone.
 use Prim.Native.Nat.{ℕ}
 use mathlib.Core.Path.{_≡_}
 use lib.Seq.{slice-empty}
@@ -9,19 +9,19 @@ use Rattle.definition.specs.Item.{lex-error}
 use Rattle.definition.specs.Comment.{line-comment}
 use Rattle.definition.specs.declared.Extra.the-variants.{NoExtra}
 use Rattle.reader.specs.Described.{bytes-of, Describes, Reads}
-use Rattle.reader.specs.declared.Place.{Place}
+use Rattle.reader.specs.declared.Cursor.{Cursor}
 use Rattle.reader.specs.declared.Payload.{Payload}
 use Rattle.reader.specs.declared.Read.{Read}
 use Rattle.read_comment.specs.LineCommentContracts.{ReadsAny}
-use Rattle.reader.specs.Rulings.{spanned, Chose, ruling-step, Fits}
-use Rattle.reader.specs.declared.rulings.Ruling.{Ruling}
-use Rattle.reader.specs.declared.rulings.Ruling.the-variants.{Token, Error, LineComment}
+use Rattle.reader.specs.Actions.{spanned, Chose, action-step, Fits}
+use Rattle.reader.specs.declared.actions.Action.{Action}
+use Rattle.reader.specs.declared.actions.Action.the-variants.{Token, Error, LineComment}
 
--- the ruling x on a choice that ends at e is carried out
-abbrev Carried : Bytes → Bytes → Place → ℕ → Ruling → Read → Type 0
-Carried s name at e x r = (f : Bytes) → Reads s name f (ruling-step s name f (at .st) e x) r
+-- the action x on a choice that ends at e is carried out
+abbrev Carried : Bytes → Bytes → Cursor → ℕ → Action → Read → Type 0
+Carried s name at e x r = (f : Bytes) → Reads s name f (action-step s name f (at .st) e x) r
 
-module _ {s name : Bytes} {at : Place} {e : ℕ} {r : Read} (h : Chose s at e) (x : Ruling) where
+module _ {s name : Bytes} {at : Cursor} {e : ℕ} {r : Read} (h : Chose s at e) (x : Action) where
   pub token-finished : {k i to : ℕ} {p : Payload} → x ≡ Token k i to p → Fits s name at x
       → ((f bytes : Bytes) → Describes s name f p bytes → Reads s name f (spanned s (at .st) i to k bytes NoExtra) r) → Carried s name at e x r
   token-finished {k} {i} {to} {p} q asked build f =

@@ -18,18 +18,18 @@ use Rattle.definition.specs.declared.State.{State}
 use Rattle.lemmas.proofs.Cases.{by-test, both, either}
 use Rattle.laws_progress.proofs.Choices.{Fits, select-fits}
 use Rattle.reader.specs.Described.{Known-at, Turns}
-use Rattle.reader.specs.Places.{moved, next-line}
+use Rattle.reader.specs.Cursors.{moved, next-line}
 use Rattle.reader.specs.Standing.{Standing}
-use Rattle.reader.specs.declared.Place.{Place}
+use Rattle.reader.specs.declared.Cursor.{Cursor}
 use Rattle.reader.specs.declared.Turned.{Turned}
 use Rattle.reader.proofs.Standing.{known-kept, known-line}
 use Rattle.laws_run.proofs.Moving.{stands-within}
-use Rattle.reader.specs.Rulings.{Chose, Rules, ruling-step}
-use Rattle.reader.specs.declared.rulings.Ruling.{Ruling}
-use Rattle.reader.proofs.RulingLaws.{rules-same}
+use Rattle.reader.specs.Actions.{Chose, Rules, action-step}
+use Rattle.reader.specs.declared.actions.Action.{Action}
+use Rattle.reader.proofs.ActionLaws.{rules-same}
 use Rattle.rule_table.specs.Keys.{Missing, keyed}
 use Rattle.rule_table.specs.Plain.{place-kinds}
-use Rattle.rule_table.specs.Ruling.{rule-numbers, rule-of, does}
+use Rattle.rule_table.specs.Action.{rule-numbers, rule-of, does}
 use Rattle.rule_table.specs.Tabled.{table-size, Tabled}
 use Rattle.rules.specs.Acting.{Acts, ReadsOn, Short, Long}
 use Rattle.rules.proofs.Tabling.{select-tabled}
@@ -65,7 +65,7 @@ module _ (s name f : Bytes) (st : State) where
       by : ℕ → Token-turn
       by k = does s name f (rule-of k) st k (c .end) (c .word)
 
--- ---- rules that give rulings
+-- ---- rules that give actions
 
 -- every rule of a place is numbered below 19
 abbrev below : ℕ → List ℕ → Bool
@@ -93,7 +93,7 @@ only-last n last [] t m = one-or (eqb last n) false t (λ e. sym (eqb-true last 
 only-last n last (k ∷ ks) t m =
     one-or (eqb k n) (mem-cp n (ks ++ (last ∷ []))) t (λ e. absurd (m .1 (sym (eqb-true k n e)))) (λ e. only-last n last ks e (m .0))
 
--- so a rule that gives no ruling, passes nothing and is none of the arms that read for themselves is that of no place
+-- so a rule that gives no action, passes nothing and is none of the arms that read for themselves is that of no place
 pub no-rule : {n k : ℕ} → n ≡ rule-of k → ReadsOn k → Long (rule-of k) → Missing (keyed (15 ∷ 14 ∷ 13 ∷ 6 ∷ 3 ∷ 2 ∷ [])) n → n ≡ 0
 no-rule {n} {k} q o l ((((((u, m2), m3), m6), m13), m14), m15) =
     only-last n 0 (15 ∷ 14 ∷ 13 ∷ 6 ∷ 5 ∷ 4 ∷ 3 ∷ 2 ∷ []) (subst Long (sym q) l)
@@ -120,8 +120,8 @@ operator-rule {n} h (((((((((v, m1), m7), m8), m9), m10), m11), m12), m16), m18)
     let record { listed = l; short = (((((((((u, m0), m2), m3), m4), m5), m6), m13), m14), m15) } = h in
     last-of (at-least 17 (((((((((((((((((tt, m0), m1), m2), m3), m4), m5), m6), m7), m8), m9), m10), m11), m12), m13), m14), m15), m16)) l m18
 
--- a ruling by the number of a rule
-pub ruled-by : {s name : Bytes} {at : Place} {c : Choice} {r : Ruling} (f : Bytes) → Tabled c → {n m : ℕ} → n ≡ m
+-- an action by the number of a rule
+pub ruled-by : {s name : Bytes} {at : Cursor} {c : Choice} {r : Action} (f : Bytes) → Tabled c → {n m : ℕ} → n ≡ m
     → Rules s name at (c .end) (does s name f m (at .st) (c .place) (c .end) (c .word)) r
     → Rules s name at (c .end) (does s name f n (at .st) (c .place) (c .end) (c .word)) r
 ruled-by {s} {name} {at} {c} f h q d = rules-same (ap (λ (m : ℕ). does s name f m (at .st) (c .place) (c .end) (c .word)) q) d
@@ -131,7 +131,7 @@ pub chosen-tabled : (s f : Bytes) (i : ℕ) {c : Choice} → c ≡ select s f i 
 chosen-tabled s f i q = subst Tabled (sym q) (select-tabled i s f)
 
 -- where some place was chosen the choice ends behind where the reader stands
-pub some-chosen : {s : Bytes} (f : Bytes) {at : Place} {c : Choice} → Standing s (at .st) (at .known) → at .st .mode ≡ 0 → c ≡ select s f (at .st .offset)
+pub some-chosen : {s : Bytes} (f : Bytes) {at : Cursor} {c : Choice} → Standing s (at .st) (at .known) → at .st .mode ≡ 0 → c ≡ select s f (at .st .offset)
     → (rule-of (c .place) ≡ 0 → ⊥) → Chose s at (c .end)
 unfolding rule-numbers
 some-chosen {s} f {at} {c} standing between q n =
@@ -139,7 +139,7 @@ some-chosen {s} f {at} {c} standing between q n =
     let some : eqb (c .place) 0 ≡ false = ne-eqb (c .place) 0 (λ o. n (subst (λ (k : ℕ). rule-of k ≡ 0) (sym o) refl)) in
     record { standing = standing; between = between; onward = fits .chosen some .onward }
 
-module _ {s name f : Bytes} {at : Place} {c : Choice} (h : Acts s name f at c) where
+module _ {s name f : Bytes} {at : Cursor} {c : Choice} (h : Acts s name f at c) where
   pub tabled : Tabled c
   tabled = chosen-tabled s f (at .st .offset) (h .chosen)
 
@@ -154,9 +154,9 @@ module _ {s name f : Bytes} {at : Place} {c : Choice} (h : Acts s name f at c) w
         subst (λ (x : Token-turn). Turns s name f x t)
         (ap (λ (m : ℕ). does s name f m (at .st) (c .place) (c .end) (c .word)) (sym p ∙ q) ∙ sym (act-is s name f (at .st) c (tabled .place))) d
 
-  -- the step that a ruling stands for is what is done
-  pub ruled-acts : {n : ℕ} {x : Ruling} → n ≡ rule-of (c .place)
-      → Rules s name at (c .end) (does s name f n (at .st) (c .place) (c .end) (c .word)) x → act s name f (at .st) c ≡ done (ruling-step s name f (at .st) (c .end) x)
+  -- the step that an action stands for is what is done
+  pub ruled-acts : {n : ℕ} {x : Action} → n ≡ rule-of (c .place)
+      → Rules s name at (c .end) (does s name f n (at .st) (c .place) (c .end) (c .word)) x → act s name f (at .st) c ≡ done (action-step s name f (at .st) (c .end) x)
   ruled-acts {n} {x} q ruled =
       act-is s name f (at .st) c (tabled .place) ∙ ap (λ (m : ℕ). does s name f m (at .st) (c .place) (c .end) (c .word)) (sym q) ∙ ruled .is f
 
@@ -186,7 +186,7 @@ keyword-word {n} {c} h q p =
 
 -- ---- what is passed
 
-module _ {s : Bytes} {at : Place} {e : ℕ} (h : Chose s at e) where
+module _ {s : Bytes} {at : Cursor} {e : ℕ} (h : Chose s at e) where
   pub end-fits : e < 4294967296
   end-fits = omega (arith, h .onward .within, h .standing .stands .short)
 
@@ -194,8 +194,8 @@ module _ {s : Bytes} {at : Place} {e : ℕ} (h : Chose s at e) where
   line-fits = omega (arith, h .standing .stands .sound .line, stands-within (h .standing .stands), h .standing .stands .short)
 
   -- on the same line, and to the next
-  pub moved-turns : {p : Place} → p ≡ moved at e → (p .st ≡ advance (at .st) e) × Known-at s (advance (at .st) e) (p .known)
+  pub moved-turns : {p : Cursor} → p ≡ moved at e → (p .st ≡ advance (at .st) e) × Known-at s (advance (at .st) e) (p .known)
   moved-turns q = rw q (refl, known-kept (at .st) (advance (at .st) e) refl refl (h .standing .cached))
 
-  pub line-turns : {p : Place} → p ≡ next-line at e → (p .st ≡ new-line (advance (at .st) e)) × Known-at s (new-line (advance (at .st) e)) (p .known)
+  pub line-turns : {p : Cursor} → p ≡ next-line at e → (p .st ≡ new-line (advance (at .st) e)) × Known-at s (new-line (advance (at .st) e)) (p .known)
   line-turns q = rw q (refl, known-line s (at .st) e)

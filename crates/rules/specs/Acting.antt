@@ -10,11 +10,11 @@ use Rattle.definition.specs.ClassFile.{class-check}
 use Rattle.definition.specs.Select.{select}
 use Rattle.definition.specs.declared.Choice.{Choice}
 use Rattle.reader.specs.Standing.{Standing}
-use Rattle.reader.specs.declared.Place.{Place}
+use Rattle.reader.specs.declared.Cursor.{Cursor}
 use Rattle.rule_table.specs.Keys.{Missing, keyed}
-use Rattle.rule_table.specs.Ruling.{rule-of}
+use Rattle.rule_table.specs.Action.{rule-of}
 
-pub record Acts (s name f : Bytes) (at : Place) (c : Choice) : Type 0 where
+pub record Acts (s name f : Bytes) (at : Cursor) (c : Choice) : Type 0 where
   pub standing : Standing s (at .st) (at .known)
   pub between : at .st .mode ≡ 0
   pub before : at .st .offset < length s
@@ -27,11 +27,11 @@ pub record ReadsOn (k : ℕ) : Type 0 where
   pub no-white : rule-of k ≡ 4 → ⊥
   pub no-line-end : rule-of k ≡ 5 → ⊥
 
--- the numbers of the rules that give no ruling: those that read on, or read a character, or pass, or expect nothing
+-- the numbers of the rules that give no action: those that read on, or read a character, or pass, or expect nothing
 abbrev pub longs : List ℕ
 longs = 15 ∷ 14 ∷ 13 ∷ 6 ∷ 5 ∷ 4 ∷ 3 ∷ 2 ∷ 0 ∷ []
 
--- n is the number of a rule that gives a ruling
+-- n is the number of a rule that gives an action
 pub record Short (n : ℕ) : Type 0 where
   pub listed : n < 19
   pub short : Missing (keyed longs) n

@@ -1,18 +1,18 @@
-// What is read of a choice that is read whole: a ruling is carried out.
+// What is read of a choice that is read whole: an action is carried out.
 //
 // Proved: each function reads what the definition gives (crates/definition/specs/Token.antt): item, payload and state. Most
-// tokens are written straight from their rulings (crate `fast_path`); what is left of them, with errors and line comments, one
+// tokens are written straight from their actions (crate `fast_path`); what is left of them, with errors and line comments, one
 // `finish` carries out. Characters, which alone have a code point besides, are made by themselves (crate
 // `rule_readers`).
 // Assumed: nothing but what each function's `requires` says: a reader stands in a sound state of a legal text, the choice
-// ends behind it (`Chose`), and the ruling fits the text (`Fits`).
+// ends behind it (`Chose`), and the action fits the text (`Fits`).
 use definition::Extra;
 use position::pos_of;
 use read_comment::line_comments::line_comment;
+use reader::Cursor;
 use reader::Payload;
-use reader::Place;
 use reader::Read;
-use reader::rulings::Ruling;
+use reader::actions::Action;
 use reader::tokens::lex_error;
 use reader::tokens::token;
 ghost use Rattle.definition.specs.Basics.{Bytes};
@@ -20,13 +20,13 @@ ghost use Rattle.definition.specs.Position.{pos-of, cur-pos};
 ghost use Rattle.definition.specs.Item.{lex-error};
 ghost use Rattle.definition.specs.declared.Extra.the-variants.{NoExtra};
 ghost use Rattle.reader.specs.Described.{Describes, Sized, Reads};
-ghost use Rattle.reader.specs.Rulings.{spanned, Chose, Spans, ruling-step, Fits};
+ghost use Rattle.reader.specs.Actions.{spanned, Chose, Spans, action-step, Fits};
 
 // A token from byte i up to byte e, with the state behind it.
 fn finish_from(
     text: &[u8],
     name: &[u8],
-    at: Place,
+    at: Cursor,
     i: usize,
     e: usize,
     kind: u32,
@@ -53,7 +53,7 @@ fn finish_from(
 }
 
 // An error over what was chosen, up to byte e.
-fn error_over(text: &[u8], name: &[u8], at: Place, e: usize, number: u32, payload: Payload) -> Read
+fn error_over(text: &[u8], name: &[u8], at: Cursor, e: usize, number: u32, payload: Payload) -> Read
     requires { ⌜ Chose (now text) at e × Sized (now name) payload ⌝ }
     ensures { λ r. ⌜ ((f bytes : Bytes) → Describes (now (text .entry)) (now (name .entry)) f payload bytes → Reads (now (text .entry)) (now (name .entry)) f (lex-error (now (text .entry)) (at .st) number bytes (cur-pos (now (text .entry)) (at .st)) (pos-of (now (text .entry)) (at .st) e)) r) ⌝ }
 {
@@ -73,20 +73,20 @@ fn error_over(text: &[u8], name: &[u8], at: Place, e: usize, number: u32, payloa
     )
 }
 
-// What is read by a ruling on a choice that ends at e.
-pub fn finish(text: &[u8], name: &[u8], at: Place, e: usize, ruling: Ruling) -> Read
-    requires { ⌜ Chose (now text) at e × Fits (now text) (now name) at ruling ⌝ }
-    ensures { λ r. ⌜ ((f : Bytes) → Reads (now (text .entry)) (now (name .entry)) f (ruling-step (now (text .entry)) (now (name .entry)) f (at .st) e ruling) r) ⌝ }
+// What is read by an action on a choice that ends at e.
+pub fn finish(text: &[u8], name: &[u8], at: Cursor, e: usize, action: Action) -> Read
+    requires { ⌜ Chose (now text) at e × Fits (now text) (now name) at action ⌝ }
+    ensures { λ r. ⌜ ((f : Bytes) → Reads (now (text .entry)) (now (name .entry)) f (action-step (now (text .entry)) (now (name .entry)) f (at .st) e action) r) ⌝ }
 {
     let st = at.st;
-    match ruling {
-        Ruling::Token {
+    match action {
+        Action::Token {
             kind,
             from,
             end,
             payload,
         } => finish_from(text, name, at, from, end, kind, payload),
-        Ruling::Error { number, payload } => error_over(text, name, at, e, number, payload),
-        Ruling::LineComment => line_comment(text, st.offset as usize, at),
+        Action::Error { number, payload } => error_over(text, name, at, e, number, payload),
+        Action::LineComment => line_comment(text, st.offset as usize, at),
     }
 }

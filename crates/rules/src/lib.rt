@@ -1,20 +1,20 @@
 // What is done with a choice: the definition's rules, but for those of white space and line ends, which read nothing, and what
-// happens where none of the places was chosen. Most rules give a ruling (`ruled`), which is carried out where it is known
+// happens where none of the places was chosen. Most rules give an action (`ruled`), which is carried out where it is known
 // whether the token fits (crate `fast_path`, module `finishes`); those that read on from behind the choice, and characters, read
 // for themselves (`act`).
 //
-// Proved: a ruling stands for what the definition's rule gives, and `act` does what the definition's `act` does with the
+// Proved: an action stands for what the definition's rule gives, and `act` does what the definition's `act` does with the
 // choice that `select` makes: it reads an item, its payload and the state behind it. The law behind it (in proofs/): the
 // word of a choice is one of its place's table (Tabling).
 // Assumed: nothing but what each function's `requires` says: a reader stands in a sound state of a legal text, between
 // comments, the choice is `select`'s, and its rule is neither that of white space nor that of a line end. Those two read
 // nothing; who asks for a choice passes them (crate `lookahead`).
-pub mod finishes; // finishes.rt: rulings carried out that were not written at once: tokens and errors with their positions
+pub mod finishes; // finishes.rt: actions carried out that were not written at once: tokens and errors with their positions
 
 use definition::Choice;
-use reader::Place;
+use reader::Cursor;
 use reader::Read;
-use reader::rulings::Ruling;
+use reader::actions::Action;
 use reader::tokens::error_here;
 use rule_numbers::bad_number;
 use rule_numbers::number;
@@ -59,16 +59,16 @@ ghost use Rattle.definition.specs.Basics.{Bytes};
 ghost use Rattle.definition.specs.Token.{act};
 ghost use Rattle.reader.specs.Described.{Turns};
 ghost use Rattle.reader.specs.declared.Turned.the-variants.{Done};
-ghost use Rattle.reader.specs.Rulings.{Chose, Rules};
+ghost use Rattle.reader.specs.Actions.{Chose, Rules};
 ghost use Rattle.rule_table.specs.Tabled.{Tabled};
-ghost use Rattle.rule_table.specs.Ruling.{rule-of, does};
+ghost use Rattle.rule_table.specs.Action.{rule-of, does};
 ghost use Rattle.rules.specs.Acting.{Acts, ReadsOn, Short, Long, Sorts};
 
 // An unexpected character.
 const UNEXPECTED: u32 = 6;
 
-// Whether a rule gives a ruling.
-pub fn gives_ruling(rule: u32) -> bool
+// Whether a rule gives an action.
+pub fn gives_action(rule: u32) -> bool
     requires { ⌜ rule < 19 ⌝ }
     ensures { λ r. ⌜ Sorts rule r ⌝ }
 {
@@ -86,8 +86,8 @@ pub fn gives_ruling(rule: u32) -> bool
     }
 }
 
-// The ruling on a choice whose rule gives one. The last arm is the rule of operators: no other is left.
-pub fn ruled(text: &[u8], at: Place, choice: Choice, rule: u32) -> Ruling
+// The action on a choice whose rule gives one. The last arm is the rule of operators: no other is left.
+pub fn ruled(text: &[u8], at: Cursor, choice: Choice, rule: u32) -> Action
     requires { ⌜ Chose (now text) at (choice .end) × Tabled choice × (rule ≡ rule-of (choice .place)) × Short rule ⌝ }
     ensures { λ r. ⌜ ((name f : Bytes) → length name ≤ 4096 → Rules (now (text .entry)) name at (choice .end) (does (now (text .entry)) name f rule (at .st) (choice .place) (choice .end) (choice .word)) r) ⌝ }
 {
@@ -107,8 +107,8 @@ pub fn ruled(text: &[u8], at: Place, choice: Choice, rule: u32) -> Ruling
     }
 }
 
-// What is read of a choice whose rule passes nothing and gives no ruling. The last arm is that of no rule: no other is left.
-pub fn act(text: &[u8], name: &[u8], classes: &[u8], at: Place, choice: Choice) -> Read
+// What is read of a choice whose rule passes nothing and gives no action. The last arm is that of no rule: no other is left.
+pub fn act(text: &[u8], name: &[u8], classes: &[u8], at: Cursor, choice: Choice) -> Read
     requires { ⌜ Acts (now text) (now name) (now classes) at choice × ReadsOn (choice .place) × Long (rule-of (choice .place)) ⌝ }
     ensures { λ r. ⌜ Turns (now (text .entry)) (now (name .entry)) (now (classes .entry)) (act (now (text .entry)) (now (name .entry)) (now (classes .entry)) (at .st) choice) (Done r) ⌝ }
 {

@@ -22,7 +22,7 @@ use Rattle.laws_run.proofs.Moving.{stands-within}
 use Rattle.laws_run.proofs.Steps.{step-stands}
 use Rattle.laws_run.proofs.Payloads.{payload-bound, budget-small}
 use Rattle.laws_run.proofs.Refusals.{Accepted}
-use Rattle.reader.specs.declared.Place.{Place}
+use Rattle.reader.specs.declared.Cursor.{Cursor}
 use Rattle.reader.specs.Described.{Known-at}
 use Rattle.laws_run.proofs.Items.{step-left}
 use Rattle.laws_run.proofs.Buffers.{words-size}
@@ -93,13 +93,13 @@ going-starts s name f st rs ps h = record {
 }
 
 -- where a run stands between two items any name that is short enough will do
-pub between-any : {s name f : Bytes} {at : Place} {count used : ℕ} {rs : List ℕ} {ps : Bytes} → Between s name f at count used rs ps
+pub between-any : {s name f : Bytes} {at : Cursor} {count used : ℕ} {rs : List ℕ} {ps : Bytes} → Between s name f at count used rs ps
     → (other : Bytes) → length other ≤ 4096 → Between s other f at count used rs ps
 between-any b other named = record { accepted = b .accepted; named = named; kept = b .kept; cached = b .cached }
 
 -- behind an item that was written a run stands between two items again, with less to read
-pub between-on : {s name f : Bytes} {at : Place} {count used : ℕ} {rs : List ℕ} {ps : Bytes} → Between s name f at count used rs ps
-    → (next : Place) (used′ : ℕ) (rs′ : List ℕ) (ps′ : Bytes)
+pub between-on : {s name f : Bytes} {at : Cursor} {count used : ℕ} {rs : List ℕ} {ps : Bytes} → Between s name f at count used rs ps
+    → (next : Cursor) (used′ : ℕ) (rs′ : List ℕ) (ps′ : Bytes)
     → Ran s (run-turn s name f (writing at count used rs ps)) count (at .st) (Wrote next used′) rs′ ps′
     → Between s name f next (count + 1) used′ rs′ ps′ × (left s (next .st) < left s (at .st))
 between-on {s} {name} {f} {at} {count} {used} {rs} {ps} b next used′ rs′ ps′ e =
@@ -108,17 +108,17 @@ between-on {s} {name} {f} {at} {count} {used} {rs} {ps} b next used′ rs′ ps�
     (record { accepted = b .accepted; named = b .named; kept = k .0; cached = e .1 }, k .1)
 
 -- and what is still to come is what was to come before it
-unrolled : {s name f : Bytes} {at : Place} {count used : ℕ} {rs : List ℕ} {ps : Bytes} → Between s name f at count used rs ps
+unrolled : {s name f : Bytes} {at : Cursor} {count used : ℕ} {rs : List ℕ} {ps : Bytes} → Between s name f at count used rs ps
     → run-from s name f (writing at count used rs ps) ≡ says (run-turn s name f (writing at count used rs ps)) (run-from s name f)
 unrolled {s} {name} {f} {at} {count} {used} {rs} {ps} b = run-unroll s name f (writing at count used rs ps) (b .kept .stands .sound .opened)
 
-pub ran-same : {s name f : Bytes} {at : Place} {count used : ℕ} {rs : List ℕ} {ps : Bytes} → Between s name f at count used rs ps
-    → (next : Place) (used′ : ℕ) (rs′ : List ℕ) (ps′ : Bytes)
+pub ran-same : {s name f : Bytes} {at : Cursor} {count used : ℕ} {rs : List ℕ} {ps : Bytes} → Between s name f at count used rs ps
+    → (next : Cursor) (used′ : ℕ) (rs′ : List ℕ) (ps′ : Bytes)
     → Ran s (run-turn s name f (writing at count used rs ps)) count (at .st) (Wrote next used′) rs′ ps′
     → run-from s name f (writing next (count + 1) used′ rs′ ps′) ≡ run-from s name f (writing at count used rs ps)
 ran-same {s} {name} {f} b next used′ rs′ ps′ e = ap (λ (t : Turn Writing Outcome). says t (run-from s name f)) (sym (e .0)) ∙ sym (unrolled b)
 
-module _ {s name f : Bytes} {st : State} {rs₀ : List ℕ} {ps₀ : Bytes} {at : Place} {count used : ℕ} {rs : List ℕ} {ps : Bytes}
+module _ {s name f : Bytes} {st : State} {rs₀ : List ℕ} {ps₀ : Bytes} {at : Cursor} {count used : ℕ} {rs : List ℕ} {ps : Bytes}
     (g : Going s name f st rs₀ ps₀ at count used rs ps) where
   -- a turn that stops answers for the whole
   pub going-stops : (stop : ℕ) (rs′ : List ℕ) (ps′ : Bytes) → Ran s (run-turn s name f (writing at count used rs ps)) count (at .st) (Stop stop) rs′ ps′
@@ -127,7 +127,7 @@ module _ {s name f : Bytes} {st : State} {rs₀ : List ℕ} {ps₀ : Bytes} {at 
       ap (λ (t : Turn Writing Outcome). says t (run-from s name f)) (sym e) ∙ sym (unrolled (g .between)) ∙ g .same
 
   -- a turn that wrote an item goes on
-  pub going-on : (next : Place) (used′ : ℕ) (rs′ : List ℕ) (ps′ : Bytes)
+  pub going-on : (next : Cursor) (used′ : ℕ) (rs′ : List ℕ) (ps′ : Bytes)
       → Ran s (run-turn s name f (writing at count used rs ps)) count (at .st) (Wrote next used′) rs′ ps′
       → Going s name f st rs₀ ps₀ next (count + 1) used′ rs′ ps′ × (left s (next .st) < left s (at .st))
   going-on next used′ rs′ ps′ e =
@@ -135,7 +135,7 @@ module _ {s name f : Bytes} {st : State} {rs₀ : List ℕ} {ps₀ : Bytes} {at 
       (record { between = b .0; same = ran-same (g .between) next used′ rs′ ps′ e ∙ g .same }, b .1)
 
   -- a run that stands elsewhere, with as much to come, goes on there
-  pub going-from : {there : Place} {count′ used′ : ℕ} {rs′ : List ℕ} {ps′ : Bytes} → Between s name f there count′ used′ rs′ ps′
+  pub going-from : {there : Cursor} {count′ used′ : ℕ} {rs′ : List ℕ} {ps′ : Bytes} → Between s name f there count′ used′ rs′ ps′
       → run-from s name f (writing there count′ used′ rs′ ps′) ≡ run-from s name f (writing at count used rs ps)
       → Going s name f st rs₀ ps₀ there count′ used′ rs′ ps′
   going-from b e = record { between = b; same = e ∙ g .same }

@@ -11,7 +11,7 @@ use Rattle.definition.specs.Item.{Step, record-size, words}
 use Rattle.definition.specs.Token.{step}
 use Rattle.definition.specs.Run.{put, Writing, stopped, written, run-turn}
 use Rattle.definition.specs.declared.State.{State}
-use Rattle.reader.specs.declared.Place.{Place}
+use Rattle.reader.specs.declared.Cursor.{Cursor}
 use Rattle.reader.specs.declared.Read.{Read}
 use Rattle.reader.specs.declared.Payload.{Payload}
 use Rattle.reader.specs.declared.Payload.the-variants.{Part, Text, Greater, Name, Line, FileLine, Literal, Piece, Blob}
@@ -60,11 +60,11 @@ module _ (s name f : Bytes) (a : Writing) where
 -- ---- what the code's turn did
 
 -- what stands ahead, read, is the step from where the run stands
-pub ahead-reads : {s name f : Bytes} {at here : Place} {ahead : Ahead} {r : Read} → StandsAhead s name f at here ahead → (at .st .mode ≡ 2 → ⊥)
+pub ahead-reads : {s name f : Bytes} {at here : Cursor} {ahead : Ahead} {r : Read} → StandsAhead s name f at here ahead → (at .st .mode ≡ 2 → ⊥)
     → Reads s name f (ahead-step s name f (here .st) ahead) r → Reads s name f (step s name f (at .st)) r
 ahead-reads {s} {name} {f} {r = r} a awake d = subst (λ (t : Step). Reads s name f t r) (a .is awake) d
 
-module _ (s name f : Bytes) (at : Place) (count used : ℕ) (rs : List ℕ) (ps : Bytes) where
+module _ (s name f : Bytes) (at : Cursor) (count used : ℕ) (rs : List ℕ) (ps : Bytes) where
   -- what a step's payload measures
   size-is : (r : Read) (n : ℕ) → Reads s name f (step s name f (at .st)) r → n ≡ length-of name (r .payload) → length (step s name f (at .st) .payload) ≡ n
   size-is r n h e = sym (e ∙ h .payload .long)
@@ -98,7 +98,7 @@ inside-listed s (Literal from n) h = tt
 inside-listed s (Piece from to width n) h = tt
 inside-listed s (Blob from to contents end) h = tt
 
-module _ {s name f : Bytes} {at : Place} {count used : ℕ} {rs : List ℕ} {ps : Bytes} {r : Read} (b : Between s name f at count used rs ps)
+module _ {s name f : Bytes} {at : Cursor} {count used : ℕ} {rs : List ℕ} {ps : Bytes} {r : Read} (b : Between s name f at count used rs ps)
     (awake : at .st .mode ≡ 2 → ⊥) (h : Reads s name f (step s name f (at .st)) r) where
   -- a payload's length is far below 2^32
   pub size-small : length-of name (r .payload) ≤ 421527552

@@ -15,7 +15,7 @@ use Rattle.laws_progress.proofs.Moves.{left}
 use Rattle.laws_progress.proofs.Fuel.{run-from}
 use Rattle.state.specs.Sound.{Stands}
 use Rattle.laws_run.specs.Budget.{budget}
-use Rattle.reader.specs.declared.Place.{Place}
+use Rattle.reader.specs.declared.Cursor.{Cursor}
 use Rattle.reader.specs.declared.Read.{Read}
 use Rattle.reader.specs.Described.{bytes-of, length-of, Inside, Known-at}
 use Rattle.lookahead.specs.Sights.{Readable, ahead-step}
@@ -24,7 +24,7 @@ use Rattle.run_turn.specs.declared.Went.{Went}
 use Rattle.run_turn.specs.declared.Went.the-variants.{Stop, Wrote}
 
 -- the run, as the definition has it
-abbrev pub writing : Place → ℕ → ℕ → List ℕ → Bytes → Writing
+abbrev pub writing : Cursor → ℕ → ℕ → List ℕ → Bytes → Writing
 writing at count used rs ps = record { state = at .st; records = rs; payload = ps; count = count; used = used }
 
 -- the answer of a run that stops
@@ -46,19 +46,19 @@ pub record Kept (s : Bytes) (a : Writing) : Type 0 where
   pub few : a .count + left s (a .state) ≤ 4294967295
 
 -- where the code stands between two items of a run that was not refused
-pub record Between (s name f : Bytes) (at : Place) (count used : ℕ) (rs : List ℕ) (ps : Bytes) : Type 0 where
+pub record Between (s name f : Bytes) (at : Cursor) (count used : ℕ) (rs : List ℕ) (ps : Bytes) : Type 0 where
   pub accepted : class-check f ≡ 0
   pub named : length name ≤ 4096
   pub kept : Kept s (writing at count used rs ps)
   pub cached : Known-at s (at .st) (at .known)
 
 -- what stands ahead of the reader at `at` is `ahead`, behind white space at `here`, unless the reading has ended
-pub record StandsAhead (s name f : Bytes) (at here : Place) (ahead : Ahead) : Type 0 where
+pub record StandsAhead (s name f : Bytes) (at here : Cursor) (ahead : Ahead) : Type 0 where
   pub readable : (at .st .mode ≡ 2 → ⊥) → Readable s name f here ahead
   pub is : (at .st .mode ≡ 2 → ⊥) → ahead-step s name f (here .st) ahead ≡ step s name f (at .st)
 
 -- what is still to come gives what the whole run gives that began in the state st with the buffers rs₀ and ps₀
-pub record Going (s name f : Bytes) (st : State) (rs₀ : List ℕ) (ps₀ : Bytes) (at : Place) (count used : ℕ) (rs : List ℕ) (ps : Bytes) : Type 0 where
+pub record Going (s name f : Bytes) (st : State) (rs₀ : List ℕ) (ps₀ : Bytes) (at : Cursor) (count used : ℕ) (rs : List ℕ) (ps : Bytes) : Type 0 where
   pub between : Between s name f at count used rs ps
   pub same : run-from s name f (writing at count used rs ps) ≡ run-items s name f st rs₀ ps₀
 

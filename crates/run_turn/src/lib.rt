@@ -6,7 +6,7 @@
 // (`Between`), what stands ahead was found there (`StandsAhead`), and an item that is written fits (`ItemFits`).
 use lookahead::Ahead;
 use payload_write::write;
-use reader::Place;
+use reader::Cursor;
 use reader::Read;
 use reader::length_of;
 use record::write_record;
@@ -21,7 +21,7 @@ ghost use Rattle.run_turn.specs.Running.{writing, Ran, Between, StandsAh
 // many payload bytes used.
 pub enum Went {
     Stop(u32),
-    Wrote { next: Place, used: usize },
+    Wrote { next: Cursor, used: usize },
 }
 
 // Writes an item: its payload from byte `used` on, its record from number `first` on.
@@ -50,8 +50,8 @@ pub fn turn(
     text: &[u8],
     name: &[u8],
     classes: &[u8],
-    at: Place,
-    here: Place,
+    at: Cursor,
+    here: Cursor,
     ahead: Ahead,
     count: usize,
     used: usize,
@@ -79,7 +79,7 @@ pub fn turn(
     let next = r.next;
     let known = r.known;
     Went::Wrote {
-        next: Place {
+        next: Cursor {
             st: next,
             known: known,
         },

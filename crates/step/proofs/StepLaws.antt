@@ -18,7 +18,7 @@ use Rattle.position.specs.declared.Located.{Located}
 use Rattle.laws_progress.proofs.Tokens.{token-unroll}
 use Rattle.reader.specs.Described.{Describes, Known-at, Reads, Turns}
 use Rattle.reader.specs.Standing.{Standing}
-use Rattle.reader.specs.declared.Place.{Place}
+use Rattle.reader.specs.declared.Cursor.{Cursor}
 use Rattle.reader.specs.declared.Payload.the-variants.{Part}
 use Rattle.reader.specs.declared.Read.{Read}
 use Rattle.reader.specs.declared.Turned.the-variants.{Done}
@@ -32,7 +32,7 @@ use Rattle.step.specs.Items.{eof, ReadsEach, Lets}
 
 -- ---- the text's end
 
-pub eof-reads : {s name : Bytes} {at : Place} {here : Located} {next : State} {r : Read}
+pub eof-reads : {s name : Bytes} {at : Cursor} {here : Located} {next : State} {r : Read}
     → Standing s (at .st) (at .known) → here ≡ located s (at .st) (at .st .offset) → next ≡ ended (at .st)
     → ((f bytes : Bytes) → Describes s name f (Part 0 0) bytes → Known-at s next (here .known) → Reads s name f (tok (kind "EOF") bytes (here .pos) (here .pos) NoExtra next) r)
     → ReadsEach s name (eof s (at .st)) r
@@ -56,7 +56,7 @@ pub next-reads : (s name f : Bytes) (st : State) (r : Read) → Turns s name f (
 next-reads s name f st r t =
     subst (λ (x : Step). Reads s name f x r) (sym (token-unroll s name f st)) (turned-done s name f (token-turn s name f st) (next-token s name f) r t)
 
-module _ {s name f : Bytes} {at : Place} {c : Choice} (h : Faces s f at c) (lets : Lets name f) (before : at .st .offset < length s) where
+module _ {s name f : Bytes} {at : Cursor} {c : Choice} (h : Faces s f at c) (lets : Lets name f) (before : at .st .offset < length s) where
   -- what is asked where the choice is acted on
   pub acts : Acts s name f at c
   acts = chosen-acts (record { standing = h .standing; between = h .between; accepted = lets .accepted }) (h .chosen) before (lets .named)

@@ -9,8 +9,8 @@ use definition::Extra;
 use lookahead::Ahead;
 use position::pos_of;
 use read_comment::comment;
+use reader::Cursor;
 use reader::Payload;
-use reader::Place;
 use reader::Read;
 use reader::tokens::ended;
 use reader::tokens::token;
@@ -19,7 +19,7 @@ use rules::finishes::finish;
 ghost use Rattle.definition.specs.Token.{next-token};
 ghost use Rattle.reader.specs.Described.{Reads};
 ghost use Rattle.reader.specs.Standing.{Standing};
-ghost use Rattle.rule_table.specs.Ruling.{rule-of};
+ghost use Rattle.rule_table.specs.Action.{rule-of};
 ghost use Rattle.rules.specs.Acting.{Long};
 ghost use Rattle.lookahead.specs.Sights.{Faces, Readable, ahead-step};
 ghost use Rattle.step.specs.Items.{eof, ReadsEach, Lets};
@@ -27,7 +27,7 @@ ghost use Rattle.step.specs.Items.{eof, ReadsEach, Lets};
 const EOF: u32 = 165;
 
 // The token at the text's end.
-fn end_of_text(text: &[u8], name: &[u8], at: Place) -> Read
+fn end_of_text(text: &[u8], name: &[u8], at: Cursor) -> Read
     requires { ⌜ Standing (now text) (at .st) (at .known) ⌝ }
     ensures { λ r. ⌜ ReadsEach (now (text .entry)) (now (name .entry)) (eof (now (text .entry)) (at .st)) r ⌝ }
 {
@@ -47,8 +47,8 @@ fn end_of_text(text: &[u8], name: &[u8], at: Place) -> Read
     )
 }
 
-// What is read of a choice: the source's `next_token` from behind white space and line ends, where no ruling is given.
-fn read_choice(text: &[u8], name: &[u8], classes: &[u8], at: Place, choice: Choice) -> Read
+// What is read of a choice: the source's `next_token` from behind white space and line ends, where no action is given.
+fn read_choice(text: &[u8], name: &[u8], classes: &[u8], at: Cursor, choice: Choice) -> Read
     requires { ⌜ Faces (now text) (now classes) at choice × Long (rule-of (choice .place)) × Lets (now name) (now classes) ⌝ }
     ensures { λ r. ⌜ Reads (now (text .entry)) (now (name .entry)) (now (classes .entry)) (next-token (now (text .entry)) (now (name .entry)) (now (classes .entry)) (at .st)) r ⌝ }
 {
@@ -60,14 +60,14 @@ fn read_choice(text: &[u8], name: &[u8], classes: &[u8], at: Place, choice: Choi
 }
 
 // The item that stands ahead of a reader.
-pub fn read(text: &[u8], name: &[u8], classes: &[u8], at: Place, ahead: Ahead) -> Read
+pub fn read(text: &[u8], name: &[u8], classes: &[u8], at: Cursor, ahead: Ahead) -> Read
     requires { ⌜ Readable (now text) (now name) (now classes) at ahead × Lets (now name) (now classes) ⌝ }
     ensures { λ r. ⌜ Reads (now (text .entry)) (now (name .entry)) (now (classes .entry)) (ahead-step (now (text .entry)) (now (name .entry)) (now (classes .entry)) (at .st) ahead) r ⌝ }
 {
     let st = at.st;
     match ahead {
         Ahead::Chosen(choice) => read_choice(text, name, classes, at, choice),
-        Ahead::Ruled { end, ruling } => finish(text, name, at, end, ruling),
+        Ahead::Ruled { end, action } => finish(text, name, at, end, action),
         Ahead::Inside => comment(text, st.offset as usize, at),
     }
 }

@@ -4,7 +4,7 @@ use mathlib.Core.Path.{sym, ap, _∙_}
 use native.Mathlib.Omega.{arith}
 use borrow.Author.Needs.{needs}
 use Rattle.laws_progress.proofs.Matches.{newline-ends}
-use Rattle.reader.specs.declared.Place.{Place}
+use Rattle.reader.specs.declared.Cursor.{Cursor}
 use Rattle.read_comment.proofs.Small.{small}
 use Rattle.read_comment.proofs.TurnLaws.{turns-open, turns-line}
 use Rattle.read_comment.proofs.at_stop.Statement.{statement}
@@ -27,7 +27,7 @@ moved-requires c κs =
 deeper-requires : tie.Need-deeper-requires
 deeper-requires c κs =
     let h = small (c .before .before .before .before .before .before .before .before .pre .inside .standing .stands) in
-    omega (arith, h .counts, ap (λ (p : Place). p .st .depth) (c .before .before .moved .ensures))
+    omega (arith, h .counts, ap (λ (p : Cursor). p .st .depth) (c .before .before .moved .ensures))
 
 returns : tie.Need-returns
 returns c =

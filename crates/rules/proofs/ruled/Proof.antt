@@ -1,4 +1,4 @@
--- Each arm gives the ruling of its number; what no arm has is the rule of operators.
+-- Each arm gives the action of its number; what no arm has is the rule of operators.
 use Rattle.rules.proofs.RuleLaws.{operator-rule, ruled-by, keyword-word}
 use borrow.Author.Needs.{needs}
 use Rattle.rules.proofs.ruled.Statement.{statement}

@@ -30,8 +30,8 @@ sub-if2 c = search needs
 returns-3 : tie.Need-returns-3
 returns-3 c = search needs
 
-stretch-requires : tie.Need-stretch-requires
-stretch-requires c κs = search needs
+ascii-run-requires : tie.Need-ascii-run-requires
+ascii-run-requires c κs = search needs
 
 cast-columns : tie.Need-cast-columns
 cast-columns c = search needs
@@ -42,7 +42,7 @@ cast-columns-2 c = omega (arith, end-small (c .before .before .before .before .b
 columns-requires : tie.Need-columns-requires
 columns-requires c κs =
     let p = c .before .before .before .before .before .before .before .before .before .before .before .before .pre in
-    (start-asked p, end-asked p, c .stretch .ensures)
+    (start-asked p, end-asked p, c .ascii-run .ensures)
 
 write-pair-requires : tie.Need-write-pair-requires
 write-pair-requires c κs = pair-fits (c .before .before .before .before .before .before .before .before .before .before .before .before .before .before .before .pre) (sym (c .before .before .before .before .before .before .before .before .before .before .short-length .ensures) ∙ c .before .before .before .before .before .before .before .before .size .given .1) (c .before .before .before .before .before .before .before .before .before .before .before .if1 .left) (c .before .before .before .before .before .before .if2 .left)
@@ -68,7 +68,7 @@ same-length-2 : tie.Need-same-length-2
 same-length-2 c = search needs
 
 returns-4 : tie.Need-returns-4
-returns-4 c = token-written _ _ _ _ _ _ (sym (c .before .before .before .before .before .before .before .before .before .before .before .before .before .before .before .before .short-length .ensures) ∙ c .before .before .before .before .before .before .before .before .before .before .before .before .before .before .size .given .1) (c .before .before .before .before .before .before .before .before .before .before .before .before .before .before .before .before .before .if1 .left) (c .before .before .before .before .before .before .before .before .before .before .before .before .if2 .left) (c .before .before .before .before .before .before .before .before .columns .ensures) (c .advance .ensures) (c .before .before .before .before .before .write-pair .ensures) (c .before .before .before .before .before .before .before .before .before .stretch .ensures)
+returns-4 c = token-written _ _ _ _ _ _ (sym (c .before .before .before .before .before .before .before .before .before .before .before .before .before .before .before .before .short-length .ensures) ∙ c .before .before .before .before .before .before .before .before .before .before .before .before .before .before .size .given .1) (c .before .before .before .before .before .before .before .before .before .before .before .before .before .before .before .before .before .if1 .left) (c .before .before .before .before .before .before .before .before .before .before .before .before .if2 .left) (c .before .before .before .before .before .before .before .before .columns .ensures) (c .advance .ensures) (c .before .before .before .before .before .write-pair .ensures) (c .before .before .before .before .before .before .before .before .before .ascii-run .ensures)
 
 pub put-token-spec : {M : Type 1} → statement M
 put-token-spec =
@@ -82,7 +82,7 @@ put-token-spec =
     returns-2
     sub-if2
     returns-3
-    stretch-requires
+    ascii-run-requires
     cast-columns
     cast-columns-2
     columns-requires

@@ -3,7 +3,7 @@ use Prim.Native.Nat.{ℕ}
 use mathlib.Core.Path.{refl}
 use mathlib.Core.List.{List, [], _∷_}
 use Rattle.definition.specs.Basics.{mem-cp}
-use Rattle.rule_table.specs.Ruling.{rule-numbers, rule-of}
+use Rattle.rule_table.specs.Action.{rule-numbers, rule-of}
 use Rattle.rule_table.proofs.Keys.{of-keys, of-others}
 use Rattle.rule_table.proofs.table.rule_of.Statement.{statement}
 use Rattle.rule_table.proofs.table.rule_of.Tie as tie

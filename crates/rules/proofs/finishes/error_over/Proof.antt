@@ -1,5 +1,5 @@
 -- The range's positions are asked for one behind the other.
-use Rattle.reader.proofs.RulingBuilding.{over-reads}
+use Rattle.reader.proofs.ActionBuilding.{over-reads}
 use Rattle.reader.proofs.Spanning.{asked-stands, end-asked, same-line}
 use borrow.Author.Needs.{needs}
 use Rattle.rules.proofs.finishes.error_over.Statement.{statement}

@@ -1,5 +1,5 @@
 -- The token's positions are asked for one behind the other.
-use Rattle.reader.proofs.RulingBuilding.{end-small, span-asked, span-reads}
+use Rattle.reader.proofs.ActionBuilding.{end-small, span-asked, span-reads}
 use native.Mathlib.Omega.{arith}
 use borrow.Author.Needs.{needs}
 use Rattle.rules.proofs.finishes.finish_from.Statement.{statement}

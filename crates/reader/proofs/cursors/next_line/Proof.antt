@@ -1,7 +1,7 @@
 -- The state is the definition's new line behind what was read.
 use borrow.Author.Needs.{needs}
-use Rattle.reader.proofs.places.next_line.Statement.{statement}
-use Rattle.reader.proofs.places.next_line.Tie as tie
+use Rattle.reader.proofs.cursors.next_line.Statement.{statement}
+use Rattle.reader.proofs.cursors.next_line.Tie as tie
 
 cast-advance : tie.Need-cast-advance
 cast-advance c = search needs

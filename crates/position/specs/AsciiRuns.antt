@@ -3,18 +3,18 @@ use Prim.Native.Nat.{ℕ, _≤_, _<_}
 use lib.ListN.{getD}
 use Rattle.definition.specs.Basics.{Bytes}
 use Rattle.position.specs.declared.Cache.{Cache}
-use Rattle.position.specs.declared.columns.Stretch.{Stretch}
+use Rattle.position.specs.declared.columns.AsciiRun.{AsciiRun}
 
 -- every byte from i up to j is ASCII
 abbrev pub Ascii : Bytes → ℕ → ℕ → Type 0
 Ascii s i j = (k : ℕ) → i ≤ k → k < j → getD s k 0 < 128
 
--- every byte of a stretch is ASCII
-abbrev pub Plain : Bytes → Stretch → Type 0
+-- every byte of a run of ASCII is ASCII
+abbrev pub Plain : Bytes → AsciiRun → Type 0
 Plain s p = Ascii s (p .from) (p .to)
 
--- the stretch holds the bytes from the known offset up to `to`, and `from` is between them
-pub record Covers (p : Stretch) (known : Cache) (from to : ℕ) : Type 0 where
+-- the run of ASCII holds the bytes from the known offset up to `to`, and `from` is between them
+pub record Covers (p : AsciiRun) (known : Cache) (from to : ℕ) : Type 0 where
   pub starts : p .from ≤ known .off
   pub behind : known .off ≤ from
   pub order : from ≤ to

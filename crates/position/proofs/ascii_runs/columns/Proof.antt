@@ -1,12 +1,12 @@
--- Where the stretch covers the token the columns go on by as much as the offsets do (`start-covered`, `end-covered`); else they are counted.
+-- Where the run of ASCII covers the token the columns go on by as much as the offsets do (`start-covered`, `end-covered`); else they are counted.
 use mathlib.Core.Path.{ap}
 use native.Mathlib.Omega.{arith}
 use borrow.Author.Needs.{needs}
 use Rattle.position.specs.declared.Cache.{Cache}
 use Rattle.position.proofs.Counting.{column-fits}
 use Rattle.position.proofs.Ascii.{start-covered, end-covered, asked-on}
-use Rattle.position.proofs.stretches.columns.Statement.{statement}
-use Rattle.position.proofs.stretches.columns.Tie as tie
+use Rattle.position.proofs.ascii_runs.columns.Statement.{statement}
+use Rattle.position.proofs.ascii_runs.columns.Tie as tie
 
 covers-requires : tie.Need-covers-requires
 covers-requires c κs = search needs

@@ -1,7 +1,7 @@
 -- No byte is looked at, or those of a block, which are ASCII where `ascii_block` says so.
 use borrow.Author.Needs.{needs}
-use Rattle.position.proofs.stretches.ascii_from.Statement.{statement}
-use Rattle.position.proofs.stretches.ascii_from.Tie as tie
+use Rattle.position.proofs.ascii_runs.ascii_from.Statement.{statement}
+use Rattle.position.proofs.ascii_runs.ascii_from.Tie as tie
 
 returns : tie.Need-returns
 returns c = search needs

@@ -14,21 +14,21 @@ use Rattle.position.specs.Columns.{Asked, located}
 use Rattle.position.specs.declared.Located.{Located}
 use Rattle.laws_run.proofs.Moving.{stands-within}
 use Rattle.reader.specs.Described.{Known-at, Reads}
-use Rattle.reader.specs.declared.Place.{Place}
+use Rattle.reader.specs.declared.Cursor.{Cursor}
 use Rattle.reader.specs.declared.Payload.{Payload}
 use Rattle.reader.specs.declared.Read.{Read}
 use Rattle.reader.proofs.Standing.{asks, known-asked, known-kept, position-kept}
-use Rattle.reader.specs.Rulings.{spanned, Chose, Spans}
+use Rattle.reader.specs.Actions.{spanned, Chose, Spans}
 use Rattle.reader.proofs.Spanning.{asked-stands}
 
-module _ {s : Bytes} {at : Place} {e : ℕ} (h : Chose s at e) where
+module _ {s : Bytes} {at : Cursor} {e : ℕ} (h : Chose s at e) where
   -- an error over the choice has them as its range
   pub over-reads : {name f bytes : Bytes} {number : ℕ} {r : Read} (start end : Located) → start ≡ located s (at .st) (at .st .offset) → end ≡ located s (at .st) e
       → Reads s name f (lex-error s (at .st) number bytes (start .pos) (end .pos)) r
       → Reads s name f (lex-error s (at .st) number bytes (cur-pos s (at .st)) (pos-of s (at .st) e)) r
   over-reads start end p q built = rw (p, q) at built
 
-module _ {s name : Bytes} {at : Place} {i e : ℕ} {p : Payload} (h : Spans s name at i e p) where
+module _ {s name : Bytes} {at : Cursor} {i e : ℕ} {p : Payload} (h : Spans s name at i e p) where
   -- no offset of a text is too large
   pub end-small : e < 4294967296
   end-small =

@@ -1,8 +1,8 @@
 -- Each arm has the number of a rule that gives none, and what is none of them gives one.
 use mathlib.Core.Path.{refl}
 use Rattle.definition.specs.Basics.{mem-cp}
-use Rattle.rules.proofs.gives_ruling.Statement.{statement}
-use Rattle.rules.proofs.gives_ruling.Tie as tie
+use Rattle.rules.proofs.gives_action.Statement.{statement}
+use Rattle.rules.proofs.gives_action.Tie as tie
 
 returns : tie.Need-returns
 unfolding mem-cp
@@ -43,8 +43,8 @@ returns-9 c = rw (c .match .keys9) refl
 returns-10 : tie.Need-returns-10
 returns-10 c = record { listed = c .before .pre; short = c .match .rest }
 
-pub gives-ruling-spec : {M : Type 1} → statement M
-gives-ruling-spec =
+pub gives-action-spec : {M : Type 1} → statement M
+gives-action-spec =
     tie.close
     (tie.spec
     returns

@@ -3,8 +3,8 @@ use Prim.Native.Nat.{_-_}
 use native.Mathlib.Omega.{arith}
 use borrow.Author.Tests.{ltb-true}
 use Rattle.position.proofs.Ascii.{Joined, joined-starts, joined-goes-on, joined-ends}
-use Rattle.position.proofs.stretches.ascii_block.Statement.{statement}
-use Rattle.position.proofs.stretches.ascii_block.Tie as tie
+use Rattle.position.proofs.ascii_runs.ascii_block.Statement.{statement}
+use Rattle.position.proofs.ascii_runs.ascii_block.Tie as tie
 
 abbrev Inv-loop : tie.InvT-loop
 Inv-loop text i bits₀ k₀ bits k = Joined text i bits k

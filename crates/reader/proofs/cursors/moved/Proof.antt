@@ -1,7 +1,7 @@
 -- The state is the definition's behind what was read.
 use borrow.Author.Needs.{needs}
-use Rattle.reader.proofs.places.moved.Statement.{statement}
-use Rattle.reader.proofs.places.moved.Tie as tie
+use Rattle.reader.proofs.cursors.moved.Statement.{statement}
+use Rattle.reader.proofs.cursors.moved.Tie as tie
 
 cast-advance : tie.Need-cast-advance
 cast-advance c = search needs

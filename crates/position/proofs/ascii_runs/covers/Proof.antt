@@ -1,8 +1,8 @@
 -- Each way out that answers no says nothing; where none is taken each of the four holds.
 use mathlib.Core.Bool.{false≢true}
 use borrow.Author.Needs.{needs}
-use Rattle.position.proofs.stretches.covers.Statement.{statement}
-use Rattle.position.proofs.stretches.covers.Tie as tie
+use Rattle.position.proofs.ascii_runs.covers.Statement.{statement}
+use Rattle.position.proofs.ascii_runs.covers.Tie as tie
 
 returns : tie.Need-returns
 returns c = λ e. absurd (false≢true e)

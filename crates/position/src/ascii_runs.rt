@@ -1,8 +1,8 @@
 // The columns of a token's ends. Over bytes that are all ASCII a column grows by one for each byte, so that there nothing is
 // counted: 64 bytes are looked at in one go, which is less than counting them, and serve every token that ends among them.
 use crate::Cache;
+use crate::columns::AsciiRun;
 use crate::columns::Columns;
-use crate::columns::Stretch;
 use crate::known_after;
 use definition::State;
 ghost use mathlib.Core.Bool.{true};
@@ -11,7 +11,7 @@ ghost use Prim.Native.Nat.{_+_, _≤_};
 ghost use lib.ListN.{length};
 ghost use Rattle.definition.specs.Position.{one-each};
 ghost use Rattle.position.specs.Columns.{Asked, column-at};
-ghost use Rattle.position.specs.Stretches.{Ascii, Plain, Covers};
+ghost use Rattle.position.specs.AsciiRuns.{Ascii, Plain, Covers};
 
 // Whether the 64 bytes from i on are all ASCII: the bits of all of them together, in a loop without a way out, which the
 // compiler turns into a few instructions.
@@ -43,9 +43,9 @@ fn ascii_from(text: &[u8], i: usize) -> usize
     i
 }
 
-// A stretch that may hold the bytes from the known offset up to `to`: the one given where it reaches so far, else one that
+// A run of ASCII that may hold the bytes from the known offset up to `to`: the one given where it reaches so far, else one that
 // is looked for behind the known offset.
-pub fn stretch(text: &[u8], known: Cache, plain: Stretch, to: usize) -> Stretch
+pub fn ascii_run(text: &[u8], known: Cache, plain: AsciiRun, to: usize) -> AsciiRun
     requires { ⌜ Plain (now text) plain ⌝ }
     ensures { λ r. ⌜ Plain (now (text .entry)) r ⌝ }
 {
@@ -53,14 +53,14 @@ pub fn stretch(text: &[u8], known: Cache, plain: Stretch, to: usize) -> Stretch
         return plain;
     }
     let from = known.off as usize;
-    Stretch {
+    AsciiRun {
         from: from,
         to: ascii_from(text, from),
     }
 }
 
-// Whether a token from `from` up to `to` stands behind the known offset, and the stretch holds all the bytes from there on.
-fn covers(plain: Stretch, known: Cache, from: u32, to: u32) -> bool
+// Whether a token from `from` up to `to` stands behind the known offset, and the run of ASCII holds all the bytes from there on.
+fn covers(plain: AsciiRun, known: Cache, from: u32, to: u32) -> bool
     ensures { λ r. ⌜ (r ≡ true → Covers plain known from to) ⌝ }
 {
     if plain.to < to as usize {
@@ -75,8 +75,8 @@ fn covers(plain: Stretch, known: Cache, from: u32, to: u32) -> bool
     from <= to
 }
 
-// The columns of a token's ends: where the stretch covers it they are known by the offsets alone.
-pub fn columns(text: &[u8], st: State, known: Cache, plain: Stretch, from: u32, to: u32) -> Columns
+// The columns of a token's ends: where the run of ASCII covers it they are known by the offsets alone.
+pub fn columns(text: &[u8], st: State, known: Cache, plain: AsciiRun, from: u32, to: u32) -> Columns
     requires { ⌜ Asked one-each (now text) st known from × Asked one-each (now text) st known to × Plain (now text) plain ⌝ }
     ensures { λ r. ⌜ (r .start ≡ column-at one-each (now (text .entry)) st from .col) × (r .end ≡ column-at one-each (now (text .entry)) st to .col) ⌝ }
 {

@@ -1,4 +1,4 @@
--- Rulings that stand for what a rule gives. Rests on nothing.
+-- Actions that stand for what a rule gives. Rests on nothing.
 use Prim.Native.Nat.{ℕ}
 use mathlib.Core.Path.{_≡_, refl, sym, ap, _∙_}
 use mathlib.Core.List.{[]}
@@ -10,17 +10,17 @@ use Rattle.definition.specs.Comment.{line-comment}
 use Rattle.definition.specs.Token.{Token-turn}
 use Rattle.definition.specs.declared.Extra.the-variants.{NoExtra}
 use Rattle.reader.specs.Described.{Sized, Describes}
-use Rattle.reader.specs.declared.Place.{Place}
+use Rattle.reader.specs.declared.Cursor.{Cursor}
 use Rattle.reader.specs.declared.Payload.{Payload}
-use Rattle.reader.specs.declared.rulings.Ruling.{Ruling}
-use Rattle.reader.specs.declared.rulings.Ruling.the-variants.{Token, Error, LineComment}
-use Rattle.reader.specs.Rulings.{spanned, Spans, Described, Rules}
+use Rattle.reader.specs.declared.actions.Action.{Action}
+use Rattle.reader.specs.declared.actions.Action.the-variants.{Token, Error, LineComment}
+use Rattle.reader.specs.Actions.{spanned, Spans, Described, Rules}
 
 -- what describes some bytes describes what it stands for
 stands-for : {s name : Bytes} {p : Payload} {bytes : Bytes} → ((f : Bytes) → Describes s name f p bytes) → Described s name p
 stands-for d f = record { is = refl; long = d f .long ∙ ap length (sym (d f .is)); inside = d f .inside }
 
-module _ {s name : Bytes} {at : Place} {e : ℕ} {t : Token-turn} where
+module _ {s name : Bytes} {at : Cursor} {e : ℕ} {t : Token-turn} where
   module _ {p : Payload} (bytes : Bytes) (d : (f : Bytes) → Describes s name f p bytes) where
     -- a token
     pub token-rules : {k i to : ℕ} → Spans s name at i to p → t ≡ done (spanned s (at .st) i to k bytes NoExtra) → Rules s name at e t (Token k i to p)
@@ -41,5 +41,5 @@ module _ {s name : Bytes} {at : Place} {e : ℕ} {t : Token-turn} where
   line-rules q = record { is = λ f. q; fits = tt }
 
   -- what stands for a rule stands for what is the same
-  pub rules-same : {u : Token-turn} {r : Ruling} → t ≡ u → Rules s name at e u r → Rules s name at e t r
+  pub rules-same : {u : Token-turn} {r : Action} → t ≡ u → Rules s name at e u r → Rules s name at e t r
   rules-same q h = record { is = λ f. q ∙ h .is f; fits = h .fits }
