@@ -1,5 +1,6 @@
 // The lines that say what a call answered and left in its buffers.
 // Proved: each function is safe and ends. Assumed: what `libc` declares of `write`.
+use definition::RECORD;
 ghost use Prim.Native.Nat.{_*_, _≤_};
 ghost use lib.ListN.{length};
 ghost use Rattle.io.specs.Counts.{Counts};
@@ -7,9 +8,6 @@ ghost use Rattle.io.specs.Counts.{Counts};
 pub const FILL_NUMBER: u32 = 4294967295;
 
 pub const FILL_BYTE: u8 = 255;
-
-// The numbers of a record.
-const RECORD: usize = 16;
 
 pub fn say(line: &[u8]) {
     io::write_all(libc::STDOUT_FILENO, line);

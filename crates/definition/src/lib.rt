@@ -1,9 +1,15 @@
 // The types that all layers share, and the methods of the lexing state. What they mean stands in specs/, which is the
 // definition of the whole lexer. Proved: each method is the definition's change of the state, and (in proofs/) the
 // definition computes document 01's cases. Assumed: nothing but what each method's `requires` says.
+pub mod errors; // errors.rt: the errors' numbers by name
+pub mod kinds; // kinds.rt: the numbers of kinds by name
+
 ghost use mathlib.Core.Path.{_≡_};
 ghost use Prim.Native.Nat.{_<_, _≤_};
 ghost use Rattle.definition.specs.State.{advance, new-line, deeper, open-comment, close-level, close-last};
+
+// How many numbers a record has.
+pub const RECORD: usize = 16;
 
 // What stands at an offset of some bytes: a legal UTF-8 sequence, as its code point and its width in bytes;
 // bytes that no legal sequence starts; or the end.

@@ -10,6 +10,7 @@ pub mod puts; // puts.rt: a token written from its action
 
 use crate::puts::Put;
 use crate::puts::put_action;
+use definition::RECORD;
 use lookahead::Ahead;
 use lookahead::look;
 use position::columns::AsciiRun;
@@ -76,7 +77,16 @@ pub fn write_tokens(
             };
         }
         let action = ruled(text, here, choice, rule);
-        match put_action(text, here, action, 16 * count, used, plain, records, bytes) {
+        match put_action(
+            text,
+            here,
+            action,
+            RECORD * count,
+            used,
+            plain,
+            records,
+            bytes,
+        ) {
             Put::Left => {
                 return Burst {
                     at: at,

@@ -6,6 +6,7 @@
 // buffers are written up to where the next record and payload begin.
 use definition::Match;
 use definition::Pos;
+use definition::RECORD;
 use payload_write::write_short;
 use position::Cache;
 use position::ascii_runs::ascii_run;
@@ -82,7 +83,7 @@ fn put_token(
     requires { ⌜ TokenAsks (now text) here from to payload first used plain (now records) (now bytes) ⌝ }
     ensures { λ r. ⌜ Puts (now (text .entry)) here (Token kind from to payload) first used (now (records .entry)) (now (bytes .entry)) r (now (records .exit)) (now (bytes .exit)) ⌝ }
 {
-    if records.len() - first < 16 {
+    if records.len() - first < RECORD {
         return Put::Left;
     }
     let Match::To(size) = short_length(payload) else {

@@ -5,6 +5,7 @@
 pub mod rounds; // rounds.rt: what the listing is lent, what one of its runs gives, and laws of its runs: how long payloads are, and what all runs list
 mod kind_names; // kind_names.rt: the kinds' names by number
 
+use definition::RECORD;
 use kind_names::name_into;
 use number_value::decimals::show_into;
 ghost use mathlib.Core.Path.{_≡_};
@@ -83,8 +84,8 @@ pub fn lines_into(records: &[u32], count: usize, out: &mut [u8]) -> usize
     let mut at = 0;
     let mut k = 0;
     while k < count {
-        let first = 16 * k;
-        let end = first + 16;
+        let first = RECORD * k;
+        let end = first + RECORD;
         at += line_into(&records[first..end], &mut out[at..]);
         k += 1;
     }

@@ -7,6 +7,8 @@ use definition::Extra;
 use definition::Item;
 use definition::Match;
 use definition::Pos;
+use definition::kinds::BLOB;
+use definition::kinds::USE_LANG_BLOB;
 use match_lit::match_lit;
 use matchers::match_newline;
 use position::pos_of;
@@ -28,10 +30,6 @@ ghost use Rattle.state.specs.Sound.{Stands};
 ghost use Rattle.reader.specs.Described.{Reads, Turns};
 ghost use Rattle.read_blob.specs.Moves.{contents-move, inside-move, blob-move, lang-move, move-at};
 ghost use Rattle.read_blob.specs.Contents.{header-of, kind-of, contents-turn, contents, blob-step, InBlob};
-
-const BLOB: u32 = 149;
-
-const USE_LANG_BLOB: u32 = 150;
 
 // What a blob's header says: where its name stands in the text, the position after it, and its start.
 pub struct Header {
@@ -170,7 +168,13 @@ fn turn(text: &[u8], name: &[u8], header: Header, lang: bool, from: usize, at: C
     let known = at.known;
     match move_at(text, lang, st.offset as usize) {
         Move::Close(e) => Turned::Done(closed(text, header, lang, from, at, e)),
-        Move::Open => Turned::Done(error_here(text, name, st, known, 2)),
+        Move::Open => Turned::Done(error_here(
+            text,
+            name,
+            st,
+            known,
+            definition::errors::UNTERMINATED_EXTENSION_SYNTAX,
+        )),
         Move::Line(e) => Turned::Again(next_line(at, e)),
         Move::On(e) => Turned::Again(moved(at, e)),
     }

@@ -12,6 +12,7 @@ use crate::moves::added;
 use crate::moves::string_move;
 use definition::Extra;
 use definition::Pos;
+use definition::kinds::STRING;
 use position::pos_of;
 use reader::Cursor;
 use reader::Payload;
@@ -30,8 +31,6 @@ ghost use Rattle.reader.specs.Described.{literal, Sized, Describes, Reads, Turn
 ghost use Rattle.read_string.specs.Moves.{string-move};
 ghost use Rattle.read_string.specs.Literal.{closed, does, states, Held};
 ghost use Rattle.read_string.specs.Contracts.{Closing, Turning, Reader};
-
-const STRING: u32 = 148;
 
 // What a literal of `count` bytes holds that stands in the text from `from` up to `to`: the very bytes there, if they are as
 // many.
@@ -84,9 +83,21 @@ fn turn(text: &[u8], name: &[u8], from: usize, count: usize, at: Cursor, sp: Pos
         Move::Skip(e) => Turned::Again(next_line(at, e)),
         Move::Line(e) => Turned::Again(next_line(at, e)),
         Move::Char(_, e) => Turned::Again(moved(at, e)),
-        Move::Surrogate => Turned::Done(error_here(text, name, st, known, 7)),
+        Move::Surrogate => Turned::Done(error_here(
+            text,
+            name,
+            st,
+            known,
+            definition::errors::SURROGATE,
+        )),
         Move::Close(e) => Turned::Done(close(text, name, from, count, at, sp, e)),
-        Move::Open => Turned::Done(error_here(text, name, st, known, 1)),
+        Move::Open => Turned::Done(error_here(
+            text,
+            name,
+            st,
+            known,
+            definition::errors::UNTERMINATED_STRING,
+        )),
     }
 }
 

@@ -6,6 +6,7 @@ use definition::Extra;
 use definition::Item;
 use definition::Pos;
 use definition::State;
+use definition::kinds::ERROR;
 use position::Cache;
 use position::pos_of;
 ghost use mathlib.Core.Path.{_≡_};
@@ -16,8 +17,6 @@ ghost use Rattle.definition.specs.State.{ended};
 ghost use Rattle.definition.specs.Item.{tok, lex-error};
 ghost use Rattle.reader.specs.Described.{Describes, Known-at, Sized, Reads};
 ghost use Rattle.reader.specs.Standing.{Standing};
-
-const ERROR: u32 = 173;
 
 // The source's `tok`: a token with the state after it, and a column that is known there.
 pub fn token(

@@ -4,6 +4,7 @@
 // payload and state. No payload is copied: each is a part of the text.
 // Assumed: nothing but what each function's `requires` says: a reader stands in a sound state of a legal text, and the
 // choice ends behind it (`Chose`; `bad_number`, which isn't lent the text, promises what it does where that holds).
+use definition::kinds::UINT8;
 use number_value::above_255;
 use number_value::cleaning::Part;
 use number_value::cleaning::clean_number;
@@ -16,8 +17,6 @@ ghost use Rattle.definition.specs.Basics.{Bytes};
 ghost use Rattle.definition.specs.Token.{number, uint8, bad-number};
 ghost use Rattle.reader.specs.Actions.{Chose, Rules, RulesOf};
 ghost use Rattle.rule_numbers.specs.Cleaned.{CleanedAt};
-
-const UINT8: u32 = 169;
 
 // The part of the text that is left of a number between i and e when it is cleaned.
 fn cleaned(text: &[u8], i: usize, e: usize) -> Part
@@ -63,7 +62,7 @@ pub fn uint8(text: &[u8], at: Cursor, e: usize) -> Action
     let to = part.to;
     if above_255(&text[from..to]) {
         return Action::Error {
-            number: 4,
+            number: definition::errors::OUT_OF_RANGE_CHARACTER,
             payload: Payload::Part { from: 0, to: 0 },
         };
     }
@@ -85,7 +84,7 @@ pub fn bad_number(at: Cursor, e: usize) -> Action
         to: e,
     };
     Action::Error {
-        number: 5,
+        number: definition::errors::INVALID_NUMBER,
         payload: lexeme,
     }
 }

@@ -4,6 +4,7 @@
 // payload and state. No payload is copied: each is a part of the text, or a `>` and a part.
 // Assumed: nothing but what each function's `requires` says: a reader stands in a sound state of a legal text, and the
 // choice ends behind it (`Chose`).
+use definition::kinds::OPINFIX0C;
 use match_lit::no_comment;
 use reader::Cursor;
 use reader::Payload;
@@ -16,8 +17,6 @@ ghost use Rattle.definition.specs.Basics.{Bytes};
 ghost use Rattle.definition.specs.Tables.{kw-op-rules};
 ghost use Rattle.definition.specs.Token.{entry, kw-op, gt, op};
 ghost use Rattle.reader.specs.Actions.{Chose, Rules, RulesOf};
-
-const OPINFIX0C: u32 = 122;
 
 // A keyword and the operator characters behind it, or the keyword by itself where the cut leaves none of them.
 pub fn kw_op(text: &[u8], at: Cursor, e: usize, word: usize) -> Action

@@ -4,6 +4,7 @@
 // Assumed: nothing but what its `requires` says: a reader stands in a sound state of a legal text, and the choice ends behind
 // it (`Chose`).
 use definition::Extra;
+use definition::kinds::CHAR;
 use escapes::unescape;
 use position::pos_of;
 use reader::Cursor;
@@ -13,8 +14,6 @@ use reader::tokens::token;
 ghost use Rattle.definition.specs.Token.{char-lit};
 ghost use Rattle.reader.specs.Actions.{Chose};
 ghost use Rattle.rule_readers.specs.Does.{Does};
-
-const CHAR: u32 = 167;
 
 // A character, with its code point.
 pub fn char_lit(text: &[u8], name: &[u8], at: Cursor, e: usize) -> Read

@@ -4,6 +4,9 @@
 // payload and state. No payload is copied: each is a part of the text or a text of the tables.
 // Assumed: nothing but what each function's `requires` says: a reader stands in a sound state of a legal text, and the
 // choice ends behind it (`Chose`; `worded`, which isn't lent the text, promises what it does where that holds).
+use definition::kinds::IDENT;
+use definition::kinds::NAME;
+use definition::kinds::OPINFIX4;
 use reader::Cursor;
 use reader::Payload;
 use reader::actions::Action;
@@ -18,12 +21,6 @@ ghost use Rattle.definition.specs.Tables.{constructors, uoperators};
 ghost use Rattle.definition.specs.Token.{ident, finish-word};
 ghost use Rattle.reader.specs.Actions.{Chose, Rules};
 ghost use Rattle.rule_words.specs.Worded.{worded, Placed};
-
-const IDENT: u32 = 65;
-
-const NAME: u32 = 119;
-
-const OPINFIX4: u32 = 160;
 
 // The token of a word of the tables; where it is none of them, the lexeme and the kind given.
 fn worded(at: Cursor, e: usize, word: Word, kind: u32) -> Action
@@ -57,7 +54,7 @@ pub fn ident(text: &[u8], at: Cursor, e: usize) -> Action
     let i = st.offset as usize;
     if reserved(&text[i..e]) {
         return Action::Error {
-            number: 3,
+            number: definition::errors::RESERVED_PREFIX,
             payload: Payload::Part { from: 0, to: 0 },
         };
     }

@@ -64,9 +64,6 @@ ghost use Rattle.rule_table.specs.Tabled.{Tabled};
 ghost use Rattle.rule_table.specs.Action.{rule-of, does};
 ghost use Rattle.rules.specs.Acting.{Acts, ReadsOn, Short, Long, Sorts};
 
-// An unexpected character.
-const UNEXPECTED: u32 = 6;
-
 // Whether a rule gives an action.
 pub fn gives_action(rule: u32) -> bool
     requires { ⌜ rule < 19 ⌝ }
@@ -122,6 +119,6 @@ pub fn act(text: &[u8], name: &[u8], classes: &[u8], at: Cursor, choice: Choice)
         COMMENT => comment_start(text, at, e),
         LINE_COMMENT => slashes(text, at, e),
         LITERAL => literal(text, name, classes, at, e),
-        _ => error_here(text, name, st, known, UNEXPECTED),
+        _ => error_here(text, name, st, known, definition::errors::UNEXPECTED_CHAR),
     }
 }

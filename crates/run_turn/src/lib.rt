@@ -4,6 +4,7 @@
 // goes on. proofs/RunLaws.antt has the laws of a run that goes on, turn by turn.
 // Assumed: nothing but what each function's `requires` says: the run was not refused, it stands between two items
 // (`Between`), what stands ahead was found there (`StandsAhead`), and an item that is written fits (`ItemFits`).
+use definition::RECORD;
 use lookahead::Ahead;
 use payload_write::write;
 use reader::Cursor;
@@ -65,8 +66,8 @@ pub fn turn(
     if st.mode == 2 {
         return Went::Stop(0);
     }
-    let first = 16 * count;
-    if records.len() - first < 16 {
+    let first = RECORD * count;
+    if records.len() - first < RECORD {
         return Went::Stop(1);
     }
     let r = read(text, name, classes, here, ahead);

@@ -6,6 +6,7 @@
 // ended, what stands ahead was found there (crate `lookahead`), the class file is accepted, and the name is short enough.
 use definition::Choice;
 use definition::Extra;
+use definition::kinds::EOF;
 use lookahead::Ahead;
 use position::pos_of;
 use read_comment::comment;
@@ -23,8 +24,6 @@ ghost use Rattle.rule_table.specs.Action.{rule-of};
 ghost use Rattle.rules.specs.Acting.{Long};
 ghost use Rattle.lookahead.specs.Sights.{Faces, Readable, ahead-step};
 ghost use Rattle.step.specs.Items.{eof, ReadsEach, Lets};
-
-const EOF: u32 = 165;
 
 // The token at the text's end.
 fn end_of_text(text: &[u8], name: &[u8], at: Cursor) -> Read

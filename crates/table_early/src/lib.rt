@@ -42,21 +42,21 @@ const EARLY: [[u8; 20]; 15] = [
 const EARLY_LENGTHS: [usize; 15] = [7, 9, 2, 2, 2, 5, 13, 12, 14, 13, 12, 15, 20, 6, 5];
 
 const EARLY_KINDS: [u32; 15] = [
-    124,
-    125,
-    126,
-    127,
-    128,
-    129,
-    130,
-    131,
-    132,
-    133,
-    134,
-    135,
-    136,
-    137,
-    138,
+    definition::kinds::SPLICE,
+    definition::kinds::SPLICET,
+    definition::kinds::BACKTICK_PERC,
+    definition::kinds::BACKTICK_HASH,
+    definition::kinds::BACKTICK_AT,
+    definition::kinds::SEQ_BANG_LBRACK,
+    definition::kinds::PRAGMA_SHOW_OPTIONS,
+    definition::kinds::PRAGMA_SET_OPTIONS,
+    definition::kinds::PRAGMA_RESET_OPTIONS,
+    definition::kinds::PRAGMA_PUSH_OPTIONS,
+    definition::kinds::PRAGMA_POP_OPTIONS,
+    definition::kinds::PRAGMA_RESTART_SOLVER,
+    definition::kinds::PRAGMA_PRINT_EFFECTS_GRAPH,
+    definition::kinds::PRAGMA_CHECK,
+    definition::kinds::PRAGMA_EVAL,
 ];
 
 // Byte j of row k of the early literals.

@@ -38,9 +38,29 @@ const KW_OPS: [[u8; 6]; 9] = [
 
 const KW_OP_LENGTHS: [usize; 9] = [5, 2, 3, 6, 3, 6, 3, 3, 1];
 
-const KW_OP_PLAIN_KINDS: [u32; 9] = [33, 23, 31, 17, 17, 20, 20, 3, 101];
+const KW_OP_PLAIN_KINDS: [u32; 9] = [
+    definition::kinds::MATCH,
+    definition::kinds::IF,
+    definition::kinds::LET,
+    definition::kinds::EXISTS,
+    definition::kinds::EXISTS,
+    definition::kinds::FORALL,
+    definition::kinds::FORALL,
+    definition::kinds::AND,
+    definition::kinds::SEMICOLON,
+];
 
-const KW_OP_KINDS: [u32; 9] = [139, 140, 141, 142, 142, 143, 143, 144, 145];
+const KW_OP_KINDS: [u32; 9] = [
+    definition::kinds::MATCH_OP,
+    definition::kinds::IF_OP,
+    definition::kinds::LET_OP,
+    definition::kinds::EXISTS_OP,
+    definition::kinds::EXISTS_OP,
+    definition::kinds::FORALL_OP,
+    definition::kinds::FORALL_OP,
+    definition::kinds::AND_OP,
+    definition::kinds::SEMICOLON_OP,
+];
 
 // Byte j of row k of the keyword operators.
 fn kw_op_byte(k: usize, j: usize) -> u8
