@@ -3,3 +3,4 @@ pub mod Tables
 mod Cases
 mod Limits
 pub mod Samples
+mod Closing

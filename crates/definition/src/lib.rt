@@ -6,7 +6,7 @@ pub mod kinds; // kinds.rt: the numbers of kinds by name
 
 ghost use mathlib.Core.Path.{_≡_};
 ghost use Prim.Native.Nat.{_<_, _≤_};
-ghost use Rattle.definition.specs.State.{advance, new-line, deeper, open-comment, close-level, close-last};
+ghost use Rattle.definition.specs.State.{advance, new-line, deeper, open-comment, one-more-comment, close-level, close-last, close-comment, ended};
 
 // How many numbers a record has.
 pub const RECORD: usize = 16;
@@ -113,8 +113,17 @@ impl State {
         self
     }
 
+    // A comment was read.
+    pub fn one_more_comment(mut self) -> State
+        requires { ⌜ self .comments < 4294967295 ⌝ }
+        ensures { λ r. ⌜ r ≡ one-more-comment self ⌝ }
+    {
+        self.comments += 1;
+        self
+    }
+
     // A level of the comment was closed, and others are open.
-    pub fn close_level(mut self) -> State
+    fn close_level(mut self) -> State
         requires { ⌜ (self .comments < 4294967295) × (1 ≤ self .depth) ⌝ }
         ensures { λ r. ⌜ r ≡ close-level self ⌝ }
     {
@@ -124,8 +133,27 @@ impl State {
         self
     }
 
+    // A level of the comment was closed: with more than one open the comment goes on, else it is over.
+    pub fn close_comment(self) -> State
+        requires { ⌜ self .comments < 4294967295 ⌝ }
+        ensures { λ r. ⌜ r ≡ close-comment self ⌝ }
+    {
+        if 1 < self.depth {
+            return self.close_level();
+        }
+        self.close_last()
+    }
+
+    // The reading has ended, with EOF or ERROR.
+    pub fn ended(mut self) -> State
+        ensures { λ r. ⌜ r ≡ ended self ⌝ }
+    {
+        self.mode = 2;
+        self
+    }
+
     // The last level of the comment was closed: the comment is over.
-    pub fn close_last(mut self) -> State
+    fn close_last(mut self) -> State
         requires { ⌜ self .comments < 4294967295 ⌝ }
         ensures { λ r. ⌜ r ≡ close-last self ⌝ }
     {

@@ -22,7 +22,6 @@ use reader::cursors::moved;
 use reader::cursors::next_line;
 use star::stops::after;
 use star::stops::run_end;
-use state::close_comment;
 use trim_lines::trim_width;
 use trim_lines::trimmed_length;
 ghost use mathlib.Core.Path.{_≡_};
@@ -53,7 +52,7 @@ fn terminate(text: &[u8], from: usize, to: usize, closed: bool, at: Cursor) -> R
     let width = trim_width(text, from, to, st.comment.col as usize);
     let length = trimmed_length(text, from, to, width);
     let here = pos_of(text, st, known, st.offset);
-    let next = close_comment(st);
+    let next = st.close_comment();
     let sp = st.comment;
     let ep = here.pos;
     let item = Item {

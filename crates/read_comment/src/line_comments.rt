@@ -7,28 +7,15 @@
 // Cost: a comment is read once.
 use definition::Extra;
 use definition::Item;
-use definition::State;
 use position::pos_of;
 use reader::Cursor;
 use reader::Payload;
 use reader::Read;
 use reader::span;
 use star::stops::run_end;
-ghost use mathlib.Core.Path.{_≡_};
-ghost use Prim.Native.Nat.{_<_};
 ghost use Rattle.definition.specs.Text.{lexeme};
-ghost use Rattle.definition.specs.State.{one-more-comment};
 ghost use Rattle.definition.specs.Comment.{line-comment};
 ghost use Rattle.read_comment.specs.LineCommentContracts.{Behind, ReadsAny};
-
-// A comment was read.
-fn one_more_comment(mut st: State) -> State
-    requires { ⌜ st .comments < 4294967295 ⌝ }
-    ensures { λ r. ⌜ r ≡ one-more-comment st ⌝ }
-{
-    st.comments += 1;
-    st
-}
 
 // The rest of the line from where the reader stands, and before it the bytes from `from` up to there.
 pub fn line_comment(text: &[u8], from: usize, at: Cursor) -> Read
@@ -40,7 +27,7 @@ pub fn line_comment(text: &[u8], from: usize, at: Cursor) -> Read
     let to = run_end(text, b'\n', b'\n', st.offset as usize);
     let start = pos_of(text, st, known, st.offset);
     let end = pos_of(text, st, start.known, to as u32);
-    let next = one_more_comment(st.advance(to as u32));
+    let next = st.advance(to as u32).one_more_comment();
     let sp = start.pos;
     let ep = end.pos;
     let item = Item {

@@ -13,7 +13,6 @@ ghost use mathlib.Core.Path.{_≡_};
 ghost use mathlib.Core.List.{[]};
 ghost use Rattle.definition.specs.Basics.{Bytes};
 ghost use Rattle.definition.specs.Position.{cur-pos};
-ghost use Rattle.definition.specs.State.{ended};
 ghost use Rattle.definition.specs.Item.{tok, lex-error};
 ghost use Rattle.reader.specs.Described.{Describes, Known-at, Sized, Reads};
 ghost use Rattle.reader.specs.Standing.{Standing};
@@ -49,15 +48,6 @@ pub fn token(
     }
 }
 
-// The state when the reading has ended.
-pub fn ended(st: State) -> State
-    ensures { λ r. ⌜ r ≡ ended st ⌝ }
-{
-    let mut next = st;
-    next.mode = 2;
-    next
-}
-
 // The source's `lex_error` and ERROR token, where reading stopped.
 pub fn lex_error(
     text: &[u8],
@@ -85,7 +75,7 @@ pub fn lex_error(
         here.pos,
         here.pos,
         extra,
-        ended(st),
+        st.ended(),
         here.known,
     )
 }

@@ -2,4 +2,3 @@
 pub mod Soundness
 mod Ladders
 mod Starting
-mod Closing

@@ -1,8 +1,7 @@
-// `start`, whether a saved state is sound, and the state after a comment's level was closed. Proved: all are the
-// definition's, `start` and `sound` for every number. Assumed: nothing but what each function's `requires` says.
+// `start`, and whether a saved state is sound. Proved: both are the definition's, for every number. Assumed: nothing but what each
+// function's `requires` says.
 ghost use mathlib.Core.Path.{_≡_};
-ghost use Prim.Native.Nat.{_<_};
-ghost use Rattle.definition.specs.State.{close-comment, at-character, place-sound, counts-sound, depth-sound, comment-sound, sound, start, started};
+ghost use Rattle.definition.specs.State.{at-character, place-sound, counts-sound, depth-sound, comment-sound, sound, start, started};
 use definition::Pos;
 use definition::StartAnswer;
 use definition::State;
@@ -129,15 +128,4 @@ pub fn sound(text: &[u8], st: State) -> bool
         }
     }
     false
-}
-
-// A level of the comment was closed: with more than one open the comment goes on, else it is over.
-pub fn close_comment(st: State) -> State
-    requires { ⌜ st .comments < 4294967295 ⌝ }
-    ensures { λ r. ⌜ r ≡ close-comment st ⌝ }
-{
-    if 1 < st.depth {
-        return st.close_level();
-    }
-    st.close_last()
 }

@@ -13,7 +13,6 @@ use read_comment::comment;
 use reader::Cursor;
 use reader::Payload;
 use reader::Read;
-use reader::tokens::ended;
 use reader::tokens::token;
 use rules::act;
 use rules::finishes::finish;
@@ -41,7 +40,7 @@ fn end_of_text(text: &[u8], name: &[u8], at: Cursor) -> Read
         here.pos,
         here.pos,
         Extra::NoExtra,
-        ended(st),
+        st.ended(),
         here.known,
     )
 }

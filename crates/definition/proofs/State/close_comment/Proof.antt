@@ -1,8 +1,8 @@
 -- By the levels that are open, as the definition has it.
 use borrow.Author.Needs.{needs}
-use Rattle.state.proofs.Closing.{closes-level, closes-last}
-use Rattle.state.proofs.close_comment.Statement.{statement}
-use Rattle.state.proofs.close_comment.Tie as tie
+use Rattle.definition.proofs.Closing.{closes-level, closes-last}
+use Rattle.definition.proofs.State.close_comment.Statement.{statement}
+use Rattle.definition.proofs.State.close_comment.Tie as tie
 
 close-level-requires : tie.Need-close-level-requires
 close-level-requires c κs = search needs
