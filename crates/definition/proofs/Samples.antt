@@ -6,7 +6,21 @@ use mathlib.Core.Bool.{Bool, true, false, _||_, false≢true}
 use mathlib.Core.List.{List, [], _∷_}
 use mathlib.Core.Logic.{_⊎_, inl, inr, ⊎-elim}
 use Rattle.definition.specs.Basics.{Bytes, codes, mem-cp}
-use Rattle.definition.specs.Chars.{is-digit, is-hex, is-lower, is-ident-start, is-constructor-start, is-ident-char, is-anywhite, is-newline-char, is-op-char, is-symbolchar, in-table, ascii-table, count-up}
+use Rattle.definition.specs.Chars.{
+  is-digit,
+  is-hex,
+  is-lower,
+  is-ident-start,
+  is-constructor-start,
+  is-ident-char,
+  is-anywhite,
+  is-newline-char,
+  is-op-char,
+  is-symbolchar,
+  in-table,
+  ascii-table,
+  count-up,
+}
 use Rattle.definition.specs.Tables.{early-literals, kw-op-rules, op-tokens, mixfix-rules}
 use Rattle.definition.specs.Regex.{Re, eps, chr, seq, alt, many, never, none, more, In}
 use Rattle.definition.specs.Patterns.{patterns, pattern}
@@ -61,5 +75,7 @@ all-in f (x ∷ xs) e =
 
 -- Each sample is a word of its place's pattern, whatever the class file.
 pub samples-hold : (f : Bytes) → Sampled f samples
-unfolding pattern patterns early-literals kw-op-rules op-tokens mixfix-rules mem-cp is-digit is-hex is-lower is-ident-start is-constructor-start is-ident-char is-anywhite is-newline-char is-op-char is-symbolchar in-table ascii-table count-up
+unfolding
+    pattern patterns early-literals kw-op-rules op-tokens mixfix-rules mem-cp is-digit is-hex is-lower is-ident-start is-constructor-start
+    is-ident-char is-anywhite is-newline-char is-op-char is-symbolchar in-table ascii-table count-up
 samples-hold f = all-in f samples refl

@@ -18,7 +18,8 @@ use Rattle.definition.specs.Tables.{cps, keywords, constructors, op-toke
 use Rattle.definition.specs.Matchers.{one, match-lit, plus, match-ident, match-constructor}
 use Rattle.definition.specs.Select.{keep, try-words, try-all, one-of-then-symbols, lit-then-symbols, places, select}
 use Rattle.definition.specs.State.{started}
-use Rattle.definition.specs.Token.{Token-turn, rules}
+use Rattle.definition.specs.Rules.{place-rules}
+use Rattle.definition.specs.Token.{Token-turn, by-rule}
 use Rattle.definition.specs.Listed.{listed}
 
 -- ---- the lowercase letters
@@ -47,11 +48,21 @@ abbrev all-known : List ℕ → Bool
 all-known [] = true
 all-known (k ∷ ks) = known k && all-known ks
 
+-- some of the numbers as records have them: the first and the last, those around 50, 100 and 150, and some that users meet most
+abbrev raw-numbers : List (ℕ × String)
+raw-numbers =
+    (1, "NOEQUALITY") ∷ (31, "LET") ∷ (50, "REQUIRES") ∷ (51, "SET_RANGE_OF") ∷ (61, "VAL") ∷ (65, "IDENT") ∷ (100, "COLON_EQUALS") ∷
+    (101, "SEMICOLON") ∷ (119, "NAME") ∷ (148, "STRING") ∷ (150, "USE_LANG_BLOB") ∷ (151, "INT8") ∷ (165, "EOF") ∷ (166, "INT") ∷
+    (167, "CHAR") ∷ (173, "ERROR") ∷ []
+
+pub kinds-raw : map (λ x. kind (x .1)) raw-numbers ≡ map (λ x. x .0) raw-numbers
+unfolding kind kind-names number-from
+kinds-raw = refl
+
 -- every kind that a table names is one of them
 pub tables-known : all-known
-    (map (λ e. kind (e .1))
-    (keywords ++ (constructors ++ (op-tokens ++ (uoperators ++ (early-literals ++ (kw-op-rules ++ mixfix-rules))))))
-    ++ map (λ e. kind (e .2)) kw-op-rules)
+    (map (λ e. kind (e .kind)) (keywords ++ (constructors ++ (op-tokens ++ (uoperators ++ (early-literals ++ mixfix-rules)))))
+    ++ (map (λ x. kind (x .kind)) kw-op-rules ++ map (λ x. kind (x .op-kind)) kw-op-rules))
     ≡ true
 unfolding kind kind-names number-from keywords constructors op-tokens uoperators early-literals kw-op-rules mixfix-rules
 tables-known = refl
@@ -74,7 +85,7 @@ given-by-place =
     ∷ "OPPREFIX" ∷ "OPINFIX0a" ∷ "OPINFIX0b" ∷ "OPINFIX0c" ∷ "OPINFIX0d" ∷ "OPINFIX1" ∷ "OPINFIX2" ∷ "OPINFIX3L" ∷ "OPINFIX4" ∷ "OP_MIXFIX_ASSIGNMENT"
     ∷ []
 
-pub rules-known : map (λ r. gives (r (started 1 0) 1 0)) (rules (0 ∷ []) [] []) ≡ map kind given-by-place
+pub rules-known : map (λ r. gives (by-rule (0 ∷ []) [] [] (started 1 0) 1 r)) (place-rules 0) ≡ map kind given-by-place
 unfolding listed
 rules-known = refl
 
@@ -91,5 +102,8 @@ places-known = refl
 
 -- of the words of a table that fit the longest is chosen: at `%splice_t`, `%splice` fits too and stands before it
 pub longest-word : (f : Bytes) → select (cps "%splice_t") f 0 ≡ record { place = 1; end = 9; word = 1 }
-unfolding select places try-all try-words keep one-of-then-symbols lit-then-symbols cps encode-all encode sequence-at sequence char-has byte-has star loop match-lit plus one match-ident match-constructor is-digit is-op-char is-symbolchar in-table ascii-table count-up mem-cp is-ident-start is-constructor-start is-lower early-literals kw-op-rules op-tokens mixfix-rules
+unfolding
+    select places try-all try-words keep one-of-then-symbols lit-then-symbols cps encode-all encode sequence-at sequence char-has byte-has
+    star loop match-lit plus one match-ident match-constructor is-digit is-op-char is-symbolchar in-table ascii-table count-up mem-cp
+    is-ident-start is-constructor-start is-lower early-literals kw-op-rules op-tokens mixfix-rules
 longest-word f = refl

@@ -5,15 +5,14 @@ use mathlib.Core.List.{[]}
 use lib.Dec.{ltb, leb, eqb}
 use lib.ListN.{length}
 use Rattle.definition.specs.Basics.{Bytes, Turn, again, done, loop, fuel, ch, if_then_else_}
-use Rattle.definition.specs.Text.{lexeme}
+use Rattle.definition.specs.Text.{lexeme, run-end, after}
 use Rattle.definition.specs.Chars.{is-newline-char}
 use Rattle.definition.specs.Tables.{cps}
 use Rattle.definition.specs.Position.{cur-pos}
 use Rattle.definition.specs.Kinds.{kind}
 use Rattle.definition.specs.Matchers.{match-lit, match-newline}
 use Rattle.definition.specs.State.{advance, new-line}
-use Rattle.definition.specs.Item.{Step, blob-tok, lex-error}
-use Rattle.definition.specs.Comment.{run-end, after}
+use Rattle.definition.specs.Item.{Step, blob-tok, error-here}
 use Rattle.definition.specs.declared.Pos.{Pos}
 use Rattle.definition.specs.declared.State.{State}
 use Rattle.definition.specs.declared.Match.the-variants.{To, Nothing}
@@ -25,7 +24,7 @@ pub record Header : Type 0 where
   pub snap : Pos
 
 abbrev pub unterminated : Bytes → State → Step
-unterminated s st = lex-error s st 2 [] (cur-pos s st) (cur-pos s st)
+unterminated s st = error-here s st 2
 
 unfoldable pub blob-stop : ℕ → Bool
 blob-stop c = eqb c (ch "`") || is-newline-char c

@@ -30,12 +30,12 @@ Listed-item = List ℕ
 abbrev pub item : ℕ → ℕ → ℕ → ℕ → ℕ → ℕ → ℕ → ℕ → List ℕ → String → Listed-item
 item sort k l₁ c₁ l₂ c₂ size ncom extra payload = sort ∷ k ∷ l₁ ∷ c₁ ∷ l₂ ∷ c₂ ∷ 0 ∷ size ∷ ncom ∷ (extra ++ cps payload)
 
-abbrev pub plain : List ℕ
-plain = 0 ∷ 0 ∷ 0 ∷ 0 ∷ 0 ∷ 0 ∷ 0 ∷ []
+abbrev pub no-extra : List ℕ
+no-extra = 0 ∷ 0 ∷ 0 ∷ 0 ∷ 0 ∷ 0 ∷ 0 ∷ []
 
 -- a token: its kind, its range, the comments so far, its payload
 abbrev pub token : String → ℕ → ℕ → ℕ → ℕ → ℕ → String → Listed-item
-token k l₁ c₁ l₂ c₂ ncom payload = item 1 (kind k) l₁ c₁ l₂ c₂ (length (cps payload)) ncom plain payload
+token k l₁ c₁ l₂ c₂ ncom payload = item 1 (kind k) l₁ c₁ l₂ c₂ (length (cps payload)) ncom no-extra payload
 
 -- the end: its position, the comments so far
 abbrev pub eof : ℕ → ℕ → ℕ → Listed-item
@@ -52,7 +52,8 @@ error number to payload = item 1 (kind "ERROR") 1 0 1 0 (length (cps payload)) 0
 -- a blob: its range, its name, the position after its header, its header's start, its contents
 abbrev pub a-blob : ℕ → ℕ → ℕ → ℕ → String → ℕ → ℕ → ℕ → ℕ → String → Listed-item
 a-blob l₁ c₁ l₂ c₂ name pl pc sl sc contents =
-    item 1 (kind "BLOB") l₁ c₁ l₂ c₂ (length (cps name)) 0 (2 ∷ length (cps contents) ∷ pl ∷ pc ∷ sl ∷ sc ∷ 0 ∷ []) "" ++ (cps name ++ cps contents)
+    let extra : List ℕ = 2 ∷ length (cps contents) ∷ pl ∷ pc ∷ sl ∷ sc ∷ 0 ∷ [] in
+    item 1 (kind "BLOB") l₁ c₁ l₂ c₂ (length (cps name)) 0 extra "" ++ (cps name ++ cps contents)
 
 -- a comment: its range, its number, whether it is closed, its text
 abbrev pub a-comment : ℕ → ℕ → ℕ → ℕ → ℕ → Bool → String → Listed-item

@@ -1,5 +1,5 @@
 -- The tests on characters, in the source's order. c is a code point: past the end no test passes (`char-has`, `byte-has`).
--- An ASCII character is never looked up in a class.
+-- "ASCII entries of any class are never consulted": an ASCII character is not looked up in a class.
 use Prim.Native.Nat.{ℕ, zero, suc}
 use mathlib.Core.Bool.{Bool, true, false, _||_}
 use mathlib.Core.List.{List, [], _∷_, map}

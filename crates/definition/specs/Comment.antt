@@ -1,14 +1,14 @@
--- Comments: `run_end`, `comment` and `line_comment`. What the source does by recursion in `comment` is done here by the
+-- `comment` and `line_comment`. What the source does by recursion in `comment` is done here by the
 -- state's depth: "closing an inner comment emits the comment accumulated so far", and so does the text's end, once for each
--- level. So a step gives one piece, and a later step goes on behind it.
+-- level. So a step gives one piece, and a later step goes on after it. "Comments come in closing order; `lex_all`
+-- lists them reversed".
 use Prim.Native.Nat.{ℕ, _+_}
-use mathlib.Core.Bool.{Bool, true, false, not, _&&_, _||_}
+use mathlib.Core.Bool.{Bool, true, false, _&&_, _||_}
 use mathlib.Core.List.{_++_}
 use lib.Dec.{ltb, leb, eqb}
 use lib.ListN.{length}
 use Rattle.definition.specs.Basics.{Bytes, Turn, again, done, loop, fuel, ch}
-use Rattle.definition.specs.Utf8.{sequence-at}
-use Rattle.definition.specs.Text.{with-char, byte-is, lexeme, star}
+use Rattle.definition.specs.Text.{byte-is, lexeme, run-end, after}
 use Rattle.definition.specs.Chars.{is-newline-char}
 use Rattle.definition.specs.Tables.{cps}
 use Rattle.definition.specs.Position.{pos-of, cur-pos}
@@ -19,19 +19,11 @@ use Rattle.definition.specs.Item.{Step, add-comment}
 use Rattle.definition.specs.declared.State.{State}
 use Rattle.definition.specs.declared.Match.the-variants.{To, Nothing}
 
--- `run_end`: "The end of the run of characters starting at [i] that are not EOF and do not satisfy [stop]"
-abbrev pub run-end : (ℕ → Bool) → Bytes → ℕ → ℕ
-run-end stop s i = star (λ c. not (stop c)) s i
-
--- the offset after the character at i; i itself past the end, where it is never asked
-unfoldable pub after : Bytes → ℕ → ℕ
-after s i = with-char (sequence-at s i) i (λ c j. j) i
-
 unfoldable pub comment-stop : ℕ → Bool
 comment-stop c = eqb c (ch "(") || (eqb c (ch "*") || is-newline-char c)
 
 -- `terminate`: the piece that began at byte `from` and whose text ends at i. `buf` holds the chunks read since, which are
--- the text's own bytes; the reading stands behind the piece
+-- the text's own bytes; the reading stands after the piece
 abbrev pub terminate : Bytes → ℕ → ℕ → Bool → State → Step
 terminate s from i closed st =
     add-comment (maybe-trim-lines (st .comment .col) (lexeme s from i ++ cps "*)")) (st .comment) (cur-pos s st) closed (close-comment st)

@@ -48,6 +48,10 @@ blob-tok k name contents sp ep pos snap next = record {
 abbrev pub lex-error : Bytes → State → ℕ → Bytes → Pos → Pos → Step
 lex-error s st number text from to = tok (kind "ERROR") text (cur-pos s st) (cur-pos s st) (LexError number from to) (ended st)
 
+-- an error without a text, whose range is where reading stopped
+abbrev pub error-here : Bytes → State → ℕ → Step
+error-here s st number = lex-error s st number [] (cur-pos s st) (cur-pos s st)
+
 -- `add_comment`: next is the state after the comment, which counts it already; closed says whether its end stood in the text
 abbrev pub add-comment : Bytes → Pos → Pos → Bool → State → Step
 add-comment text sp ep closed next = tok 0 text sp ep (Comment closed) next

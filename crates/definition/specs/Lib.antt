@@ -10,6 +10,7 @@ pub mod Position
 pub mod Kinds
 pub mod Tables
 pub mod Matchers
+pub mod Rules
 pub mod Select
 pub mod Numbers
 pub mod Escapes
@@ -21,6 +22,7 @@ pub mod Strings
 pub mod Blob
 pub mod Token
 pub mod Run
+pub mod Items
 pub mod Regex
 pub mod Patterns
 pub mod Longest

@@ -10,14 +10,14 @@ use Rattle.definition.specs.Item.{record-size}
 use Rattle.definition.specs.Run.{Outcome}
 use Rattle.definition.specs.Basics.{loop, mem-cp, same}
 use Rattle.definition.specs.Utf8.{encode, encode-all, tail-bits, two, three-bytes, three, four-bytes, four, sequence, sequence-at}
-use Rattle.definition.specs.Text.{char-has, byte-has, star, first-bad}
+use Rattle.definition.specs.Text.{char-has, byte-has, star, after, first-bad}
 use Rattle.definition.specs.ClassFile.{
   in-ranges,
   little-endian,
   class-count,
   class-offset,
   counts-before,
-  place-of,
+  ranges-start,
   read-ranges,
   ranges-of,
   bad-class-length,
@@ -79,6 +79,7 @@ use Rattle.definition.specs.Matchers.{
   match-backtick-ident,
   no-comment,
 }
+use Rattle.definition.specs.Rules.{place-rules, rule-of}
 use Rattle.definition.specs.Select.{keep, try-words, try-all, one-of-then-symbols, lit-then-symbols, places, select}
 use Rattle.definition.specs.Numbers.{
   strips,
@@ -95,11 +96,11 @@ use Rattle.definition.specs.Numbers.{
 }
 use Rattle.definition.specs.Escapes.{code-at, hex-value, unescape, is-surrogate}
 use Rattle.definition.specs.Trim.{onto-first, split-lines, join-lines, empty-prefix, trim-width, maybe-trim-lines}
-use Rattle.definition.specs.State.{close-comment, at-character, place-sound, counts-sound, depth-sound, comment-sound, sound, start}
-use Rattle.definition.specs.Comment.{after, comment-stop, comment, line-comment}
+use Rattle.definition.specs.State.{close-comment, at-character, offsets-sound, counts-sound, depth-sound, comment-sound, sound, start}
+use Rattle.definition.specs.Comment.{comment-stop, comment, line-comment}
 use Rattle.definition.specs.Strings.{string-stop, escape-turn, string-lit}
 use Rattle.definition.specs.Blob.{blob-stop, blob, use-lang}
-use Rattle.definition.specs.Token.{starts-with, rules, act, token-turn, next-token, step}
+use Rattle.definition.specs.Token.{starts-with, act, token-turn, next-token, step}
 use Rattle.definition.specs.Run.{put, run-turn, run-items, text-too-long, name-too-long, refusal, run}
 
 -- a record with word 6 set to 0
@@ -110,7 +111,7 @@ without-place ws = take 6 ws ++ (0 ∷ drop 7 ws)
 abbrev pub payload-length : List ℕ → ℕ
 payload-length ws = getD ws 7 0 + (if eqb (getD ws 9 0) 2 then getD ws 10 0 else 0)
 
--- n records of the buffers, each with its payload's bytes behind it
+-- n records of the buffers, each with its payload's bytes after it
 unfoldable pub read-back : ℕ → List ℕ → Bytes → List (List ℕ)
 read-back zero rs ps = []
 read-back (suc n) rs ps =
@@ -132,7 +133,7 @@ unfoldable pub listed : Bytes → Bytes → List (List ℕ)
 unfolding
     read-back said
     loop mem-cp same encode encode-all tail-bits two three-bytes three four-bytes four sequence sequence-at char-has byte-has star first-bad
-    in-ranges little-endian class-count class-offset counts-before place-of read-ranges ranges-of bad-class-length offsets-right laid-out
+    in-ranges little-endian class-count class-offset counts-before ranges-start read-ranges ranges-of bad-class-length offsets-right laid-out
     ascending ranges-right class-check is-lu is-lt is-lo is-lm is-zs is-sm ll-tbl is-ll is-digit is-hex count-up ascii-table in-table
     is-op-char is-symbolchar is-lower is-ident-start is-constructor-start is-ident-char is-anywhite is-newline-char is-uoperator
     is-continuation weight-at count-chars col-by kind-names number-from kind cps find keywords constructors op-tokens uoperators
@@ -140,8 +141,9 @@ unfolding
     match-char match-char-lit match-integer match-xinteger any-integer-ends match-int-suffix match-int-usuffix match-floatp skip-sign is-e
     match-floate match-real match-bad-number match-backtick-ident no-comment keep try-words try-all one-of-then-symbols lit-then-symbols
     places select strips strip-left behind strip-right clean-number digit-value value-from base-of after-zero int-of-string show code-at
-    hex-value unescape is-surrogate onto-first split-lines join-lines empty-prefix trim-width maybe-trim-lines close-comment at-character place-sound counts-sound depth-sound comment-sound
-    sound start after comment-stop comment line-comment string-stop escape-turn string-lit blob-stop blob use-lang starts-with rules act
-    token-turn next-token step put run-turn run-items text-too-long name-too-long refusal run
+    hex-value unescape is-surrogate onto-first split-lines join-lines empty-prefix trim-width maybe-trim-lines close-comment at-character
+    offsets-sound counts-sound depth-sound comment-sound sound start after comment-stop comment line-comment string-stop escape-turn
+    string-lit blob-stop blob use-lang place-rules rule-of starts-with act token-turn next-token step put run-turn run-items text-too-long
+    name-too-long refusal run
 listed text classes =
     said (run text (cps "stdin") classes (started 1 0) (replicate (record-size * (length text + 1)) 0) (replicate (4 * length text) 0))

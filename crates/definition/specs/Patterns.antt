@@ -7,9 +7,20 @@ use mathlib.Core.List.{List, [], _∷_, map}
 use lib.Dec.{eqb}
 use lib.ListN.{getD}
 use Rattle.definition.specs.Basics.{Bytes, ch, codes, mem-cp, between}
-use Rattle.definition.specs.Chars.{is-digit, is-hex, is-op-char, is-symbolchar, is-ident-start, is-constructor-start, is-ident-char, is-anywhite, is-newline-char, is-uoperator}
-use Rattle.definition.specs.Tables.{Entry, early-literals, kw-op-rules, op-tokens, mixfix-rules}
-use Rattle.definition.specs.Regex.{Re, chr, seq, alt, many, never, some, opt, word, any-word}
+use Rattle.definition.specs.Chars.{
+  is-digit,
+  is-hex,
+  is-op-char,
+  is-symbolchar,
+  is-ident-start,
+  is-constructor-start,
+  is-ident-char,
+  is-anywhite,
+  is-newline-char,
+  is-uoperator,
+}
+use Rattle.definition.specs.Tables.{words-of, early-literals, kw-op-words, op-tokens, mixfix-rules}
+use Rattle.definition.specs.Regex.{Re, chr, seq, alt, many, never, at-least-one, opt, word, any-word}
 
 -- ---- parts of patterns
 
@@ -21,8 +32,8 @@ abbrev pub one-of : String → Re
 one-of s = chr (λ c. mem-cp c (codes s))
 
 -- "a table within a pattern stands for any one of its words"
-abbrev pub one-word : List Entry → Re
-one-word es = any-word (map (λ e. codes (e .0)) es)
+abbrev pub one-word : List String → Re
+one-word xs = any-word (map codes xs)
 
 abbrev pub nl : Re
 nl = alt (text "\r\n") (chr is-newline-char)
@@ -45,14 +56,14 @@ abbrev pub any-char : Re
 any-char = alt (chr (λ c. not (eqb c (ch "\\")))) escape-char
 
 abbrev pub integer : Re
-integer = some (chr is-digit)
+integer = at-least-one (chr is-digit)
 
 abbrev pub xinteger : Re
 xinteger =
     seq (text "0")
-    (alt (seq (one-of "xX") (some (chr is-hex)))
-    (alt (seq (one-of "oO") (some (chr (between (ch "0") (ch "7")))))
-    (seq (one-of "bB") (some (one-of "01")))))
+    (alt (seq (one-of "xX") (at-least-one (chr is-hex)))
+    (alt (seq (one-of "oO") (at-least-one (chr (between (ch "0") (ch "7")))))
+    (seq (one-of "bB") (at-least-one (one-of "01")))))
 
 abbrev pub any-integer : Re
 any-integer = alt integer xinteger
@@ -78,8 +89,8 @@ abbrev pub xieee64 : Re
 xieee64 = seq xinteger (text "LF")
 
 -- Compl ('`' | nl)
-abbrev pub plain : Re
-plain = chr (λ c. not (eqb c (ch "`")) && not (is-newline-char c))
+abbrev pub backtick-free : Re
+backtick-free = chr (λ c. not (eqb c (ch "`")) && not (is-newline-char c))
 
 abbrev pub symbols : Re
 symbols = many (chr is-symbolchar)
@@ -88,18 +99,18 @@ symbols = many (chr is-symbolchar)
 
 unfoldable pub patterns : Bytes → List Re
 patterns f =
-    one-word early-literals  -- 1 REarly
+    one-word (words-of early-literals)  -- 1 REarly
     ∷ seq (text "```") (identifier f)  -- 2 RTripleBacktick
     ∷ seq (text "#lang-") (identifier f)  -- 3 RLang
     ∷ text "__SOURCE_FILE__"  -- 4 RSourceFile
     ∷ text "__LINE__"  -- 5 RLine
     ∷ text "__FILELINE__"  -- 6 RFileLine
-    ∷ some (chr (is-anywhite f))  -- 7 RWhite
+    ∷ at-least-one (chr (is-anywhite f))  -- 7 RWhite
     ∷ nl  -- 8 RNewline
     ∷ seq (text "'") (seq any-char (text "'"))  -- 9 RCharLit
     ∷ seq (text "'") (seq any-char (text "'B"))  -- 10 RCharLitB
     ∷ text "`"  -- 11 RBacktick
-    ∷ seq (one-word kw-op-rules) (some (chr is-op-char))  -- 12 RKwOp
+    ∷ seq (one-word kw-op-words) (at-least-one (chr is-op-char))  -- 12 RKwOp
     ∷ text ";;"  -- 13 RSemiSemi
     ∷ identifier f  -- 14 RIdent
     ∷ constructor f  -- 15 RConstructor
@@ -114,16 +125,16 @@ patterns f =
     ∷ suffixed "L"  -- 24 RNumber INT64
     ∷ suffixed "sz"  -- 25 RNumber SIZET
     ∷ seq floatp (text "R")  -- 26 RReal
-    ∷ seq (alt integer (alt xinteger (alt ieee64 xieee64))) (some (chr (is-ident-char f)))  -- 27 RBadNumber
+    ∷ seq (alt integer (alt xinteger (alt ieee64 xieee64))) (at-least-one (chr (is-ident-char f)))  -- 27 RBadNumber
     ∷ text "(*"  -- 28 RCommentStart
     ∷ text "// IN F*:"  -- 29 RInFStar
     ∷ text "//"  -- 30 RLineComment
     ∷ text "\""  -- 31 RString
-    ∷ seq (text "``") (seq (some (alt plain (seq (text "`") plain))) (text "``"))  -- 32 RBacktickIdent
+    ∷ seq (text "``") (seq (at-least-one (alt backtick-free (seq (text "`") backtick-free))) (text "``"))  -- 32 RBacktickIdent
     ∷ text "<|"  -- 33 RPipeLeft
     ∷ text "|>"  -- 34 RPipeRight
     ∷ text ".."  -- 35 RDotDot
-    ∷ one-word op-tokens  -- 36 ROpToken
+    ∷ one-word (words-of op-tokens)  -- 36 ROpToken
     ∷ text "<"  -- 37 RLt
     ∷ seq (text ">") symbols  -- 38 RGt
     ∷ seq (text "**") symbols  -- 39 ROp OPINFIX3R
@@ -137,7 +148,7 @@ patterns f =
     ∷ seq (one-of "+-") symbols  -- 47 ROp OPINFIX2
     ∷ seq (one-of "*/%") symbols  -- 48 ROp OPINFIX3L
     ∷ chr (is-uoperator f)  -- 49 RUOperator
-    ∷ one-word mixfix-rules  -- 50 RMixfix
+    ∷ one-word (words-of mixfix-rules)  -- 50 RMixfix
     ∷ []
 
 -- the pattern of place k; a number that is no place has one that permits nothing

@@ -37,8 +37,8 @@ In (many r) w = Many (In r) w
 abbrev pub never : Re
 never = chr (λ a. false)
 
-abbrev pub some : Re → Re
-some r = seq r (many r)
+abbrev pub at-least-one : Re → Re
+at-least-one r = seq r (many r)
 
 abbrev pub opt : Re → Re
 opt r = alt eps r

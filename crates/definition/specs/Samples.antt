@@ -1,5 +1,5 @@
 -- Samples of the patterns: for each place words of its language, one for each way that the pattern has of being met; of a table a
--- word or two stand for the others. Cursor 49 has no sample: its characters are those of the class file. That the samples are
+-- word or two stand for the others. Place 49 has no sample: its characters are those of the class file. That the samples are
 -- words of their languages is computed by derivatives.
 use Prim.Native.Nat.{ℕ}
 use Prim.Native.String.{String}
@@ -40,13 +40,15 @@ accepts r (a ∷ w) = accepts (after-char a r) w
 
 abbrev pub samples : List (ℕ × String)
 samples =
-    (1, "%splice") ∷ (1, "#eval") ∷ (2, "```f") ∷ (3, "#lang-x") ∷ (4, "__SOURCE_FILE__") ∷ (5, "__LINE__") ∷ (6, "__FILELINE__") ∷ (7, "  ") ∷
-    (8, "\r\n") ∷ (8, "\r") ∷ (9, "'a'") ∷ (9, "'\\n'") ∷ (9, "'\\x4f'") ∷ (9, "'\\u00e9'") ∷ (10, "'a'B") ∷ (11, "`") ∷ (12, "let+") ∷ (13, ";;") ∷ (14, "x'1") ∷
-    (15, "Ab") ∷ (16, "12") ∷ (16, "0x1F") ∷ (16, "0o17") ∷ (16, "0B01") ∷ (17, "1uy") ∷ (17, "1z") ∷ (18, "0x1y") ∷ (19, "1Us") ∷ (20, "1s") ∷ (21, "1ul") ∷
-    (22, "1l") ∷ (23, "1uL") ∷ (24, "1L") ∷ (25, "1sz") ∷ (26, "1.5R") ∷ (27, "12") ∷ (27, "0x1g") ∷ (27, "1.5a") ∷ (27, "1e+5a") ∷ (27, "1.5e5a") ∷ (27, "1.5e+5a") ∷ (27, "0x1LFa") ∷
-    (28, "(*") ∷ (29, "// IN F*:") ∷ (30, "//") ∷ (31, "\"") ∷ (32, "``a``") ∷ (32, "```a``") ∷ (33, "<|") ∷ (34, "|>") ∷ (35, "..") ∷ (36, "~") ∷ (36, "}") ∷ (37, "<") ∷
-    (38, ">=") ∷ (39, "**+") ∷ (40, "|->") ∷ (41, "?=") ∷ (42, "||") ∷ (43, "&&") ∷ (44, "<=") ∷ (45, "$+") ∷ (46, "^^") ∷ (47, "-+") ∷ (48, "%=") ∷ (50, ".[]<-") ∷
-    (50, ".[||]") ∷ []
+    (1, "%splice") ∷ (1, "#eval") ∷ (2, "```f") ∷ (3, "#lang-x") ∷ (4, "__SOURCE_FILE__") ∷ (5, "__LINE__") ∷
+    (6, "__FILELINE__") ∷ (7, "  ") ∷ (8, "\r\n") ∷ (8, "\r") ∷ (9, "'a'") ∷ (9, "'\\n'") ∷ (9, "'\\x4f'") ∷
+    (9, "'\\u00e9'") ∷ (10, "'a'B") ∷ (11, "`") ∷ (12, "let+") ∷ (13, ";;") ∷ (14, "x'1") ∷ (15, "Ab") ∷ (16, "12") ∷
+    (16, "0x1F") ∷ (16, "0o17") ∷ (16, "0B01") ∷ (17, "1uy") ∷ (17, "1z") ∷ (18, "0x1y") ∷ (19, "1Us") ∷ (20, "1s") ∷
+    (21, "1ul") ∷ (22, "1l") ∷ (23, "1uL") ∷ (24, "1L") ∷ (25, "1sz") ∷ (26, "1.5R") ∷ (27, "12") ∷ (27, "0x1g") ∷
+    (27, "1.5a") ∷ (27, "1e+5a") ∷ (27, "1.5e5a") ∷ (27, "1.5e+5a") ∷ (27, "0x1LFa") ∷ (28, "(*") ∷ (29, "// IN F*:") ∷
+    (30, "//") ∷ (31, "\"") ∷ (32, "``a``") ∷ (32, "```a``") ∷ (33, "<|") ∷ (34, "|>") ∷ (35, "..") ∷ (36, "~") ∷
+    (36, "}") ∷ (37, "<") ∷ (38, ">=") ∷ (39, "**+") ∷ (40, "|->") ∷ (41, "?=") ∷ (42, "||") ∷ (43, "&&") ∷ (44, "<=") ∷
+    (45, "$+") ∷ (46, "^^") ∷ (47, "-+") ∷ (48, "%=") ∷ (50, ".[]<-") ∷ (50, ".[||]") ∷ []
 
 -- each sample is a word of its place's language
 abbrev pub Sampled : Bytes → List (ℕ × String) → Type 0

@@ -1,4 +1,5 @@
--- `select`: what is chosen at an offset. Its 50 places are the `try_` calls of the source, in their order.
+-- `select`: what is chosen at an offset. Its 50 places are the `try_` calls of the source, in their order; what each leads to is its
+-- rule (Rules).
 -- s is the text, f the class file, i an offset.
 use Prim.Native.Nat.{ℕ, suc, _+_}
 use Prim.Native.Char.{Char}
@@ -9,7 +10,7 @@ use lib.Dec.{ltb, leb, eqb}
 use Rattle.definition.specs.Basics.{Bytes, ch, codes, mem-cp, if_then_else_}
 use Rattle.definition.specs.Text.{char-has, star}
 use Rattle.definition.specs.Chars.{ascii-limit, is-digit, is-anywhite, is-op-char, is-symbolchar, is-uoperator}
-use Rattle.definition.specs.Tables.{Entry, cps, early-literals, kw-op-rules, op-tokens, mixfix-rules}
+use Rattle.definition.specs.Tables.{cps, words-of, early-literals, kw-op-words, op-tokens, mixfix-rules}
 use Rattle.definition.specs.Matchers.{
   _then_,
   later,
@@ -50,9 +51,9 @@ found i place word Nothing = none-at i
 
 -- `List.iter`: each word of a table is tried in turn, from word number w on. The source looks up only the words that begin
 -- with the character at i; no other could match
-unfoldable pub try-words : ℕ → ℕ → (Bytes → Match) → ℕ → List Entry → Choice → Choice
+unfoldable pub try-words : ℕ → ℕ → (Bytes → Match) → ℕ → List String → Choice → Choice
 try-words i place m w [] best = best
-try-words i place m w (e ∷ es) best = try-words i place m (suc w) es (keep best (found i place w (m (cps (e .0)))))
+try-words i place m w (x ∷ xs) best = try-words i place m (suc w) xs (keep best (found i place w (m (cps x))))
 
 -- each place is tried in turn
 unfoldable pub try-all : List Choice → Choice → Choice
@@ -69,7 +70,7 @@ one-of-then-symbols s i chars = one (λ c. mem-cp c (codes chars)) s i then λ e
 unfoldable pub lit-then-symbols : Bytes → ℕ → String → Match
 lit-then-symbols s i word = match-lit s (cps word) i then λ e. To (star is-symbolchar s e)
 
--- what each place finds at i, in order. A `when` is an `if` of the source around some `try_` calls
+-- what each place finds at i, in order. An `under` is an `if` of the source around some `try_` calls
 unfoldable pub places : Bytes → Bytes → ℕ → List Choice
 places s f i =
     let is : Char → Bool = λ x. char-has (λ c. eqb c (ch x)) s i in
@@ -78,58 +79,58 @@ places s f i =
     let op-char = char-has is-op-char s i in
     let lit : String → Match = λ word. match-lit s (cps word) i in
     let place : ℕ → Match → Choice = λ k m. found i k 0 m in
-    let when : Bool → Match → Match = λ t m. only t m in
-    let table : ℕ → (Bytes → Match) → List Entry → Choice = λ k m es. try-words i k m 0 es (none-at i) in
-    table 1 (λ w. match-lit s w i) early-literals  -- 1 REarly
-    ∷ place 2 (when (is "`") (lit "```" then match-ident s f))  -- 2 RTripleBacktick
-    ∷ place 3 (when (is "#") (lit "#lang-" then match-ident s f))  -- 3 RLang
-    ∷ place 4 (when (is "_") (lit "__SOURCE_FILE__"))  -- 4 RSourceFile
-    ∷ place 5 (when (is "_") (lit "__LINE__"))  -- 5 RLine
-    ∷ place 6 (when (is "_") (lit "__FILELINE__"))  -- 6 RFileLine
-    ∷ place 7 (when beyond-ascii (plus (is-anywhite f) s i))  -- 7 RWhite
-    ∷ place 8 (when beyond-ascii (match-newline s i))  -- 8 RNewline
-    ∷ place 9 (when (is "'") (match-char-lit s i false))  -- 9 RCharLit
-    ∷ place 10 (when (is "'") (match-char-lit s i true))  -- 10 RCharLitB
-    ∷ place 11 (when (is "`") (To (i + 1)))  -- 11 RBacktick
-    ∷ table 12 (λ w. match-lit s w i then plus is-op-char s) kw-op-rules  -- 12 RKwOp
-    ∷ place 13 (when (is ";") (lit ";;"))  -- 13 RSemiSemi
+    let under : Bool → Match → Match = λ t m. only t m in
+    let table : ℕ → (Bytes → Match) → List String → Choice = λ k m xs. try-words i k m 0 xs (none-at i) in
+    table 1 (λ x. match-lit s x i) (words-of early-literals)  -- 1 REarly
+    ∷ place 2 (under (is "`") (lit "```" then match-ident s f))  -- 2 RTripleBacktick
+    ∷ place 3 (under (is "#") (lit "#lang-" then match-ident s f))  -- 3 RLang
+    ∷ place 4 (under (is "_") (lit "__SOURCE_FILE__"))  -- 4 RSourceFile
+    ∷ place 5 (under (is "_") (lit "__LINE__"))  -- 5 RLine
+    ∷ place 6 (under (is "_") (lit "__FILELINE__"))  -- 6 RFileLine
+    ∷ place 7 (under beyond-ascii (plus (is-anywhite f) s i))  -- 7 RWhite
+    ∷ place 8 (under beyond-ascii (match-newline s i))  -- 8 RNewline
+    ∷ place 9 (under (is "'") (match-char-lit s i false))  -- 9 RCharLit
+    ∷ place 10 (under (is "'") (match-char-lit s i true))  -- 10 RCharLitB
+    ∷ place 11 (under (is "`") (To (i + 1)))  -- 11 RBacktick
+    ∷ table 12 (λ x. match-lit s x i then plus is-op-char s) kw-op-words  -- 12 RKwOp
+    ∷ place 13 (under (is ";") (lit ";;"))  -- 13 RSemiSemi
     ∷ place 14 (match-ident s f i)  -- 14 RIdent
     ∷ place 15 (match-constructor s f i)  -- 15 RConstructor
-    ∷ place 16 (when digit (max-list (any-integer-ends s i)))  -- 16 RInt
-    ∷ place 17 (when digit (later (match-int-usuffix s i (cps "y")) (match-int-suffix s i (cps "z"))))  -- 17 RUInt8
-    ∷ place 18 (when digit (match-int-suffix s i (cps "y")))  -- 18 RNumber INT8
-    ∷ place 19 (when digit (match-int-usuffix s i (cps "s")))  -- 19 RNumber UINT16
-    ∷ place 20 (when digit (match-int-suffix s i (cps "s")))  -- 20 RNumber INT16
-    ∷ place 21 (when digit (match-int-usuffix s i (cps "l")))  -- 21 RNumber UINT32
-    ∷ place 22 (when digit (match-int-suffix s i (cps "l")))  -- 22 RNumber INT32
-    ∷ place 23 (when digit (match-int-usuffix s i (cps "L")))  -- 23 RNumber UINT64
-    ∷ place 24 (when digit (match-int-suffix s i (cps "L")))  -- 24 RNumber INT64
-    ∷ place 25 (when digit (match-int-suffix s i (cps "sz")))  -- 25 RNumber SIZET
-    ∷ place 26 (when digit (match-real s i))  -- 26 RReal
-    ∷ place 27 (when digit (match-bad-number s f i))  -- 27 RBadNumber
-    ∷ place 28 (when (is "(") (lit "(*"))  -- 28 RCommentStart
-    ∷ place 29 (when (is "/") (lit "// IN F*:"))  -- 29 RInFStar
-    ∷ place 30 (when (is "/") (lit "//"))  -- 30 RLineComment
-    ∷ place 31 (when (is "\"") (To (i + 1)))  -- 31 RString
-    ∷ place 32 (when (is "`") (match-backtick-ident s i))  -- 32 RBacktickIdent
-    ∷ place 33 (when (is "<") (lit "<|"))  -- 33 RPipeLeft
-    ∷ place 34 (when (is "|") (lit "|>"))  -- 34 RPipeRight
-    ∷ place 35 (when (is ".") (lit ".."))  -- 35 RDotDot
-    ∷ table 36 (λ w. match-lit s w i) op-tokens  -- 36 ROpToken
-    ∷ place 37 (when op-char (when (is "<") (To (i + 1))))  -- 37 RLt
-    ∷ place 38 (when op-char (when (is ">") (To (star is-symbolchar s (i + 1)))))  -- 38 RGt
-    ∷ place 39 (when op-char (lit-then-symbols s i "**"))  -- 39 ROp OPINFIX3R
-    ∷ place 40 (when op-char (lit-then-symbols s i "|->"))  -- 40 ROp OPINFIX4
-    ∷ place 41 (when op-char (one-of-then-symbols s i "!~?"))  -- 41 ROp OPPREFIX
-    ∷ place 42 (when op-char (one-of-then-symbols s i "|"))  -- 42 ROp OPINFIX0a
-    ∷ place 43 (when op-char (one-of-then-symbols s i "&"))  -- 43 ROp OPINFIX0b
-    ∷ place 44 (when op-char (one-of-then-symbols s i "=<"))  -- 44 ROp OPINFIX0c
-    ∷ place 45 (when op-char (one-of-then-symbols s i "$"))  -- 45 ROp OPINFIX0d
-    ∷ place 46 (when op-char (one-of-then-symbols s i "@^"))  -- 46 ROp OPINFIX1
-    ∷ place 47 (when op-char (one-of-then-symbols s i "+-"))  -- 47 ROp OPINFIX2
-    ∷ place 48 (when op-char (one-of-then-symbols s i "*/%"))  -- 48 ROp OPINFIX3L
-    ∷ place 49 (when beyond-ascii (one (is-uoperator f) s i))  -- 49 RUOperator
-    ∷ table 50 (λ w. match-lit s w i) mixfix-rules  -- 50 RMixfix
+    ∷ place 16 (under digit (max-list (any-integer-ends s i)))  -- 16 RInt
+    ∷ place 17 (under digit (later (match-int-usuffix s i (cps "y")) (match-int-suffix s i (cps "z"))))  -- 17 RUInt8
+    ∷ place 18 (under digit (match-int-suffix s i (cps "y")))  -- 18 RNumber INT8
+    ∷ place 19 (under digit (match-int-usuffix s i (cps "s")))  -- 19 RNumber UINT16
+    ∷ place 20 (under digit (match-int-suffix s i (cps "s")))  -- 20 RNumber INT16
+    ∷ place 21 (under digit (match-int-usuffix s i (cps "l")))  -- 21 RNumber UINT32
+    ∷ place 22 (under digit (match-int-suffix s i (cps "l")))  -- 22 RNumber INT32
+    ∷ place 23 (under digit (match-int-usuffix s i (cps "L")))  -- 23 RNumber UINT64
+    ∷ place 24 (under digit (match-int-suffix s i (cps "L")))  -- 24 RNumber INT64
+    ∷ place 25 (under digit (match-int-suffix s i (cps "sz")))  -- 25 RNumber SIZET
+    ∷ place 26 (under digit (match-real s i))  -- 26 RReal
+    ∷ place 27 (under digit (match-bad-number s f i))  -- 27 RBadNumber
+    ∷ place 28 (under (is "(") (lit "(*"))  -- 28 RCommentStart
+    ∷ place 29 (under (is "/") (lit "// IN F*:"))  -- 29 RInFStar
+    ∷ place 30 (under (is "/") (lit "//"))  -- 30 RLineComment
+    ∷ place 31 (under (is "\"") (To (i + 1)))  -- 31 RString
+    ∷ place 32 (under (is "`") (match-backtick-ident s i))  -- 32 RBacktickIdent
+    ∷ place 33 (under (is "<") (lit "<|"))  -- 33 RPipeLeft
+    ∷ place 34 (under (is "|") (lit "|>"))  -- 34 RPipeRight
+    ∷ place 35 (under (is ".") (lit ".."))  -- 35 RDotDot
+    ∷ table 36 (λ x. match-lit s x i) (words-of op-tokens)  -- 36 ROpToken
+    ∷ place 37 (under op-char (under (is "<") (To (i + 1))))  -- 37 RLt
+    ∷ place 38 (under op-char (under (is ">") (To (star is-symbolchar s (i + 1)))))  -- 38 RGt
+    ∷ place 39 (under op-char (lit-then-symbols s i "**"))  -- 39 ROp OPINFIX3R
+    ∷ place 40 (under op-char (lit-then-symbols s i "|->"))  -- 40 ROp OPINFIX4
+    ∷ place 41 (under op-char (one-of-then-symbols s i "!~?"))  -- 41 ROp OPPREFIX
+    ∷ place 42 (under op-char (one-of-then-symbols s i "|"))  -- 42 ROp OPINFIX0a
+    ∷ place 43 (under op-char (one-of-then-symbols s i "&"))  -- 43 ROp OPINFIX0b
+    ∷ place 44 (under op-char (one-of-then-symbols s i "=<"))  -- 44 ROp OPINFIX0c
+    ∷ place 45 (under op-char (one-of-then-symbols s i "$"))  -- 45 ROp OPINFIX0d
+    ∷ place 46 (under op-char (one-of-then-symbols s i "@^"))  -- 46 ROp OPINFIX1
+    ∷ place 47 (under op-char (one-of-then-symbols s i "+-"))  -- 47 ROp OPINFIX2
+    ∷ place 48 (under op-char (one-of-then-symbols s i "*/%"))  -- 48 ROp OPINFIX3L
+    ∷ place 49 (under beyond-ascii (one (is-uoperator f) s i))  -- 49 RUOperator
+    ∷ table 50 (λ x. match-lit s x i) (words-of mixfix-rules)  -- 50 RMixfix
     ∷ []
 
 -- the fast paths first: "rules that are the only ones starting with [c]"

@@ -112,8 +112,8 @@ unfoldable pub at-character : Bytes → ℕ → Bool
 at-character s i = if ltb i (length s) then not (is-continuation (getD s i 0)) else eqb i (length s)
 
 -- "both offsets stand on a character's first byte or the text's end; the line start isn't past the offset"
-unfoldable pub place-sound : Bytes → State → Bool
-place-sound s st = at-character s (st .offset) && (at-character s (st .bol) && leb (st .bol) (st .offset))
+unfoldable pub offsets-sound : Bytes → State → Bool
+offsets-sound s st = at-character s (st .offset) && (at-character s (st .bol) && leb (st .bol) (st .offset))
 
 -- "the line is at most 1,000,000 plus the offset; the line-start column is at most 1,000,000; comments and depth together are at
 -- most the offset; the mode is 0, 1 or 2"
@@ -134,7 +134,7 @@ unfoldable pub comment-sound : State → Bool
 comment-sound st = leb (st .comment .line) (st .line) && leb (st .comment .col) 2048576
 
 unfoldable pub sound : Bytes → State → Bool
-sound s st = place-sound s st && (counts-sound st && (depth-sound st && comment-sound st))
+sound s st = offsets-sound s st && (counts-sound st && (depth-sound st && comment-sound st))
 
 -- ---- document 01, "Start"
 

@@ -5,15 +5,14 @@ use mathlib.Core.List.{[], _++_}
 use lib.Dec.{ltb, leb, eqb}
 use lib.ListN.{length}
 use Rattle.definition.specs.Basics.{Bytes, Turn, again, done, loop, fuel, ch}
-use Rattle.definition.specs.Text.{byte-is, lexeme, star}
+use Rattle.definition.specs.Text.{byte-is, lexeme, star, run-end}
 use Rattle.definition.specs.Chars.{is-newline-char, is-anywhite}
 use Rattle.definition.specs.Position.{cur-pos}
 use Rattle.definition.specs.Kinds.{kind}
 use Rattle.definition.specs.Matchers.{only, match-newline, match-escape}
 use Rattle.definition.specs.Escapes.{unescape, is-surrogate, string-of-cp}
 use Rattle.definition.specs.State.{advance, new-line}
-use Rattle.definition.specs.Item.{Step, tok, lex-error}
-use Rattle.definition.specs.Comment.{run-end}
+use Rattle.definition.specs.Item.{Step, tok, error-here}
 use Rattle.definition.specs.declared.Pos.{Pos}
 use Rattle.definition.specs.declared.State.{State}
 use Rattle.definition.specs.declared.Extra.the-variants.{NoExtra}
@@ -27,7 +26,7 @@ unfoldable pub escape-turn : Bytes → State → Bytes → ℕ → Turn (State �
 escape-turn s st acc e =
     let c = unescape s (st .offset) in
     elim (is-surrogate c) [
-      | true ↦ done (lex-error s st 7 [] (cur-pos s st) (cur-pos s st))
+      | true ↦ done (error-here s st 7)
       | false ↦ again (advance st e, acc ++ string-of-cp c)
     ]
 
@@ -47,7 +46,8 @@ string-turn s f sp (st, acc) =
             | Nothing ↦ elim (byte-is (ch "\"") s i) [
               | true ↦ done (let st = advance st (i + 1) in tok (kind "STRING") acc sp (cur-pos s st) NoExtra st)
               | false ↦ elim (leb (length s) i) [
-                | true ↦ done (lex-error s st 1 [] (cur-pos s st) (cur-pos s st))
+                | true ↦ done (error-here s st 1)
+                -- "`\` before a character that makes no escape stays in the string"
                 | false ↦ again (advance st (i + 1), acc ++ lexeme s i (i + 1))
               ]
             ]
@@ -57,4 +57,4 @@ string-turn s f sp (st, acc) =
     ]
 
 unfoldable pub string-lit : Bytes → Bytes → State → Pos → Step
-string-lit s f st sp = loop (string-turn s f sp) (λ a. lex-error s (a .0) 1 [] (cur-pos s (a .0)) (cur-pos s (a .0))) (fuel s) (st, [])
+string-lit s f st sp = loop (string-turn s f sp) (λ a. error-here s (a .0) 1) (fuel s) (st, [])

@@ -2,8 +2,9 @@
 use Prim.Native.Nat.{ℕ}
 use Prim.Native.String.{String}
 use mathlib.Core.Bool.{true, false}
-use mathlib.Core.List.{List, [], _∷_}
+use mathlib.Core.List.{List, [], _∷_, map}
 use mathlib.Core.Option.{Option, none, some}
+use lib.ListN.{getD}
 use Rattle.definition.specs.Basics.{Bytes, codes, same}
 use Rattle.definition.specs.Utf8.{encode-all}
 
@@ -11,19 +12,43 @@ use Rattle.definition.specs.Utf8.{encode-all}
 unfoldable pub cps : String → Bytes
 cps s = encode-all (codes s)
 
--- a word with the kind of its token and the token's text; of a keyword operator, with the plain kind and the kind before an operator.
--- Early literals have no text, and that of a mixfix word is the lexeme (Token), so that none stands here
-abbrev pub Entry : Type 0
-Entry = String × String × String
+-- a word with the kind of its token and the token's text. Early literals have no text, and that of a mixfix word is the lexeme
+-- (Token), so that none stands here
+pub record Entry : Type 0 where
+  pub word : String
+  pub kind : String
+  pub text : String
+
+-- a keyword operator: the word, its kind by itself, and its kind before operator characters
+pub record KwOp : Type 0 where
+  pub word : String
+  pub kind : String
+  pub op-kind : String
+
+-- the tables are written as the source writes them: rows of a word, a kind, and a text or a second kind
+abbrev pub as-entries : List (String × String × String) → List Entry
+as-entries = map (λ x. record { word = x .0; kind = x .1; text = x .2 })
+
+abbrev pub as-kw-ops : List (String × String × String) → List KwOp
+as-kw-ops = map (λ x. record { word = x .0; kind = x .1; op-kind = x .2 })
+
+-- the words of a table
+abbrev pub words-of : List Entry → List String
+words-of = map (λ e. e .word)
+
+-- the entry of a table by its number
+abbrev pub entry : List Entry → ℕ → Entry
+entry table w = getD table w (record { word = ""; kind = ""; text = "" })
 
 -- `M.try_find`
 unfoldable pub find : Bytes → List Entry → Option Entry
 find id [] = none
-find id (e ∷ es) = elim (same (cps (e .0)) id) [ true ↦ some e | false ↦ find id es ]
+find id (e ∷ es) = elim (same (cps (e .word)) id) [ true ↦ some e | false ↦ find id es ]
 
 unfoldable pub keywords : List Entry
 keywords =
-    ("noeq", "NOEQUALITY", "") ∷ ("unopteq", "UNOPTEQUALITY", "") ∷ ("and", "AND", "") ∷ ("assert", "ASSERT", "") ∷
+    as-entries
+    (("noeq", "NOEQUALITY", "") ∷ ("unopteq", "UNOPTEQUALITY", "") ∷ ("and", "AND", "") ∷ ("assert", "ASSERT", "") ∷
     ("assume", "ASSUME", "") ∷ ("begin", "BEGIN", "") ∷ ("by", "BY", "") ∷ ("calc", "CALC", "") ∷ ("class", "CLASS", "") ∷
     ("decreases", "DECREASES", "") ∷ ("effect", "EFFECT", "") ∷ ("eliminate", "ELIM", "") ∷ ("else", "ELSE", "") ∷ ("end", "END", "") ∷
     ("ensures", "ENSURES", "") ∷ ("exception", "EXCEPTION", "") ∷ ("exists", "EXISTS", "") ∷ ("false", "FALSE", "") ∷
@@ -41,16 +66,18 @@ keywords =
     ("γ", "IDENT", "'c") ∷ ("δ", "IDENT", "'d") ∷ ("ε", "IDENT", "'e") ∷ ("φ", "IDENT", "'f") ∷ ("χ", "IDENT", "'g") ∷
     ("η", "IDENT", "'h") ∷ ("ι", "IDENT", "'i") ∷ ("κ", "IDENT", "'k") ∷ ("μ", "IDENT", "'m") ∷ ("ν", "IDENT", "'n") ∷
     ("π", "IDENT", "'p") ∷ ("θ", "IDENT", "'q") ∷ ("ρ", "IDENT", "'r") ∷ ("σ", "IDENT", "'s") ∷ ("τ", "IDENT", "'t") ∷
-    ("ψ", "IDENT", "'u") ∷ ("ω", "IDENT", "'w") ∷ ("ξ", "IDENT", "'x") ∷ ("ζ", "IDENT", "'z") ∷ []
+    ("ψ", "IDENT", "'u") ∷ ("ω", "IDENT", "'w") ∷ ("ξ", "IDENT", "'x") ∷ ("ζ", "IDENT", "'z") ∷ [])
 
 unfoldable pub constructors : List Entry
 constructors =
-    ("ℕ", "IDENT", "nat") ∷ ("ℤ", "IDENT", "int") ∷ ("𝔹", "IDENT", "bool") ∷ []
+    as-entries
+    (("ℕ", "IDENT", "nat") ∷ ("ℤ", "IDENT", "int") ∷ ("𝔹", "IDENT", "bool") ∷ [])
 
 -- "The ASCII operator tokens"
 unfoldable pub op-tokens : List Entry
 op-tokens =
-    ("~", "TILDE", "~") ∷ ("-", "MINUS", "") ∷ ("/\\", "CONJUNCTION", "") ∷ ("\\/", "DISJUNCTION", "") ∷ ("<:", "SUBTYPE", "") ∷
+    as-entries
+    (("~", "TILDE", "~") ∷ ("-", "MINUS", "") ∷ ("/\\", "CONJUNCTION", "") ∷ ("\\/", "DISJUNCTION", "") ∷ ("<:", "SUBTYPE", "") ∷
     ("$:", "EQUALTYPE", "") ∷ ("<@", "SUBKIND", "") ∷ ("(|", "LENS_PAREN_LEFT", "") ∷ ("|)", "LENS_PAREN_RIGHT", "") ∷ ("#", "HASH", "") ∷
     ("u#", "UNIV_HASH", "") ∷ ("&", "AMP", "") ∷ ("()", "LPAREN_RPAREN", "") ∷ ("(", "LPAREN", "") ∷ (")", "RPAREN", "") ∷
     (",", "COMMA", "") ∷ ("~>", "SQUIGGLY_RARROW", "") ∷ ("->", "RARROW", "") ∷ ("<--", "LONG_LEFT_ARROW", "") ∷ ("<-", "LARROW", "") ∷
@@ -61,37 +88,47 @@ op-tokens =
     ("%[", "PERCENT_LBRACK", "") ∷ ("returns$", "RETURNS_EQ", "") ∷ ("!{", "BANG_LBRACE", "") ∷ ("[@@@", "LBRACK_AT_AT_AT", "") ∷
     ("[@@", "LBRACK_AT_AT", "") ∷ ("[@", "LBRACK_AT", "") ∷ ("[|", "LBRACK_BAR", "") ∷ ("{|", "LBRACE_BAR", "") ∷ ("[", "LBRACK", "") ∷
     ("|>", "PIPE_RIGHT", "") ∷ ("]", "RBRACK", "") ∷ ("|]", "BAR_RBRACK", "") ∷ ("|}", "BAR_RBRACE", "") ∷ ("{", "LBRACE", "") ∷
-    ("|", "BAR", "") ∷ ("}", "RBRACE", "") ∷ []
+    ("|", "BAR", "") ∷ ("}", "RBRACE", "") ∷ [])
 
 -- "Unicode operators; only reachable through the [uoperator] rule"
 unfoldable pub uoperators : List Entry
 uoperators =
-    ("∀", "FORALL", "") ∷ ("∃", "EXISTS", "") ∷ ("⊤", "NAME", "True") ∷ ("⊥", "NAME", "False") ∷ ("⟹", "IMPLIES", "") ∷ ("⟺", "IFF", "") ∷
+    as-entries
+    (("∀", "FORALL", "") ∷ ("∃", "EXISTS", "") ∷ ("⊤", "NAME", "True") ∷ ("⊥", "NAME", "False") ∷ ("⟹", "IMPLIES", "") ∷ ("⟺", "IFF", "") ∷
     ("→", "RARROW", "") ∷ ("←", "LARROW", "") ∷ ("⟵", "LONG_LEFT_ARROW", "") ∷ ("↝", "SQUIGGLY_RARROW", "") ∷ ("≔", "COLON_EQUALS", "") ∷
     ("∧", "CONJUNCTION", "") ∷ ("∨", "DISJUNCTION", "") ∷ ("¬", "TILDE", "~") ∷ ("⸬", "COLON_COLON", "") ∷ ("▹", "PIPE_RIGHT", "") ∷
     ("÷", "OPINFIX3L", "÷") ∷ ("‖", "OPINFIX0a", "||") ∷ ("×", "IDENT", "op_Star") ∷ ("∗", "OPINFIX3L", "*") ∷ ("⇒", "OPINFIX0c", "=>") ∷
     ("≥", "OPINFIX0c", ">=") ∷ ("≤", "OPINFIX0c", "<=") ∷ ("≠", "OPINFIX0c", "<>") ∷ ("≪", "OPINFIX0c", "<<") ∷ ("◃", "OPINFIX0c", "<|") ∷
-    ("±", "OPPREFIX", "±") ∷ ("∁", "OPPREFIX", "∁") ∷ ("∂", "OPPREFIX", "∂") ∷ ("√", "OPPREFIX", "√") ∷ []
+    ("±", "OPPREFIX", "±") ∷ ("∁", "OPPREFIX", "∁") ∷ ("∂", "OPPREFIX", "∂") ∷ ("√", "OPPREFIX", "√") ∷ [])
 
 -- "Fixed literal tokens that come first"
 unfoldable pub early-literals : List Entry
 early-literals =
-    ("%splice", "SPLICE", "") ∷ ("%splice_t", "SPLICET", "") ∷ ("`%", "BACKTICK_PERC", "") ∷ ("`#", "BACKTICK_HASH", "") ∷
+    as-entries
+    (("%splice", "SPLICE", "") ∷ ("%splice_t", "SPLICET", "") ∷ ("`%", "BACKTICK_PERC", "") ∷ ("`#", "BACKTICK_HASH", "") ∷
     ("`@", "BACKTICK_AT", "") ∷ ("seq![", "SEQ_BANG_LBRACK", "") ∷ ("#show-options", "PRAGMA_SHOW_OPTIONS", "") ∷
     ("#set-options", "PRAGMA_SET_OPTIONS", "") ∷ ("#reset-options", "PRAGMA_RESET_OPTIONS", "") ∷
     ("#push-options", "PRAGMA_PUSH_OPTIONS", "") ∷ ("#pop-options", "PRAGMA_POP_OPTIONS", "") ∷
     ("#restart-solver", "PRAGMA_RESTART_SOLVER", "") ∷ ("#print-effects-graph", "PRAGMA_PRINT_EFFECTS_GRAPH", "") ∷
-    ("#check", "PRAGMA_CHECK", "") ∷ ("#eval", "PRAGMA_EVAL", "") ∷ []
+    ("#check", "PRAGMA_CHECK", "") ∷ ("#eval", "PRAGMA_EVAL", "") ∷ [])
 
--- "followed by operator characters"
-unfoldable pub kw-op-rules : List Entry
+-- "followed by operator characters"; "No keyword-operator word begins another" (computed in crate `table_kw_op`)
+unfoldable pub kw-op-rules : List KwOp
 kw-op-rules =
-    ("match", "MATCH", "MATCH_OP") ∷ ("if", "IF", "IF_OP") ∷ ("let", "LET", "LET_OP") ∷ ("exists", "EXISTS", "EXISTS_OP") ∷
+    as-kw-ops
+    (("match", "MATCH", "MATCH_OP") ∷ ("if", "IF", "IF_OP") ∷ ("let", "LET", "LET_OP") ∷ ("exists", "EXISTS", "EXISTS_OP") ∷
     ("∃", "EXISTS", "EXISTS_OP") ∷ ("forall", "FORALL", "FORALL_OP") ∷ ("∀", "FORALL", "FORALL_OP") ∷ ("and", "AND", "AND_OP") ∷
-    (";", "SEMICOLON", "SEMICOLON_OP") ∷ []
+    (";", "SEMICOLON", "SEMICOLON_OP") ∷ [])
+
+abbrev pub kw-op-words : List String
+kw-op-words = map (λ x. x .word) kw-op-rules
+
+abbrev pub kw-op-entry : ℕ → KwOp
+kw-op-entry w = getD kw-op-rules w (record { word = ""; kind = ""; op-kind = "" })
 
 unfoldable pub mixfix-rules : List Entry
 mixfix-rules =
-    (".[]<-", "OP_MIXFIX_ASSIGNMENT", "") ∷ (".()<-", "OP_MIXFIX_ASSIGNMENT", "") ∷ (".(||)<-", "OP_MIXFIX_ASSIGNMENT", "") ∷
+    as-entries
+    ((".[]<-", "OP_MIXFIX_ASSIGNMENT", "") ∷ (".()<-", "OP_MIXFIX_ASSIGNMENT", "") ∷ (".(||)<-", "OP_MIXFIX_ASSIGNMENT", "") ∷
     (".[||]<-", "OP_MIXFIX_ASSIGNMENT", "") ∷ (".[]", "OP_MIXFIX_ACCESS", "") ∷ (".()", "OP_MIXFIX_ACCESS", "") ∷
-    (".(||)", "OP_MIXFIX_ACCESS", "") ∷ (".[||]", "OP_MIXFIX_ACCESS", "") ∷ []
+    (".(||)", "OP_MIXFIX_ACCESS", "") ∷ (".[||]", "OP_MIXFIX_ACCESS", "") ∷ [])

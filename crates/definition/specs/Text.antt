@@ -1,6 +1,6 @@
 -- Reading a text: the source's `get`, `byte`, `next` and `lexeme`, and document 01's first offset where no legal sequence starts.
 use Prim.Native.Nat.{ℕ, _+_}
-use mathlib.Core.Bool.{Bool, true, false}
+use mathlib.Core.Bool.{Bool, true, false, not}
 use lib.Dec.{ltb, eqb}
 use lib.ListN.{length, getD}
 use lib.Seq.{slice}
@@ -54,6 +54,14 @@ star-turn f s i = with-char (sequence-at s i) i (λ c j. elim (f c) [ true ↦ a
 
 unfoldable pub star : (ℕ → Bool) → Bytes → ℕ → ℕ
 star f s i = loop (star-turn f s) (λ j. j) (fuel s) i
+
+-- `run_end`: "The end of the run of characters starting at [i] that are not EOF and do not satisfy [stop]"
+abbrev pub run-end : (ℕ → Bool) → Bytes → ℕ → ℕ
+run-end stop s i = star (λ c. not (stop c)) s i
+
+-- the offset after the character at i; i itself past the end, where it is never asked
+unfoldable pub after : Bytes → ℕ → ℕ
+after s i = with-char (sequence-at s i) i (λ c j. j) i
 
 -- document 01, "run refuses": the first offset, from 0 by legal sequences, where none starts; the length where there is none
 unfoldable pub first-bad : Bytes → ℕ

@@ -6,18 +6,57 @@ use mathlib.Core.Bool.{Bool, true, false}
 use mathlib.Core.List.{List, [], _∷_, _++_}
 use mathlib.Core.Option.{none, some}
 use lib.Dec.{ltb, leb, eqb}
-use lib.ListN.{length, getD, take}
+use lib.ListN.{length, take}
 use Rattle.definition.specs.Basics.{Bytes, Turn, again, done, loop, fuel, ch, same}
 use Rattle.definition.specs.Text.{lexeme}
-use Rattle.definition.specs.Tables.{Entry, cps, find, keywords, constructors, op-tokens, uoperators, early-literals, kw-op-rules, mixfix-rules}
+use Rattle.definition.specs.Tables.{Entry, KwOp, cps, find, keywords, constructors, uoperators}
 use Rattle.definition.specs.Position.{pos-of, cur-pos}
 use Rattle.definition.specs.Kinds.{kind}
 use Rattle.definition.specs.Matchers.{no-comment}
+use Rattle.definition.specs.Rules.{
+  Rule,
+  REarly,
+  RTripleBacktick,
+  RLang,
+  RSourceFile,
+  RLine,
+  RFileLine,
+  RWhite,
+  RNewline,
+  RCharLit,
+  RCharLitB,
+  RBacktick,
+  RKwOp,
+  RSemiSemi,
+  RIdent,
+  RConstructor,
+  RInt,
+  RUInt8,
+  RNumber,
+  RReal,
+  RBadNumber,
+  RCommentStart,
+  RInFStar,
+  RLineComment,
+  RString,
+  RBacktickIdent,
+  RPipeLeft,
+  RPipeRight,
+  RDotDot,
+  ROpToken,
+  RLt,
+  RGt,
+  ROp,
+  RUOperator,
+  RMixfix,
+  RAny,
+  rule-of,
+}
 use Rattle.definition.specs.Select.{select}
 use Rattle.definition.specs.Numbers.{clean-number, int-of-string, show}
 use Rattle.definition.specs.Escapes.{unescape}
 use Rattle.definition.specs.State.{advance, new-line, ended, open-comment}
-use Rattle.definition.specs.Item.{Step, tok, lex-error}
+use Rattle.definition.specs.Item.{Step, tok, lex-error, error-here}
 use Rattle.definition.specs.Comment.{comment, line-comment}
 use Rattle.definition.specs.Strings.{string-lit}
 use Rattle.definition.specs.Blob.{Header, blob, use-lang}
@@ -25,22 +64,18 @@ use Rattle.definition.specs.declared.Choice.{Choice}
 use Rattle.definition.specs.declared.State.{State}
 use Rattle.definition.specs.declared.Extra.the-variants.{NoExtra, CharLit}
 
--- a call of `next_token`: it calls itself behind what it skips, or it gives an item
+-- a call of `next_token`: it calls itself after what it skips, or it gives an item
 abbrev pub Token-turn : Type 0
 Token-turn = Turn State Step
 
--- "`Ident.reserved_prefix` is five bytes, the letter u twice and then three underscores"
+-- "`Ident.reserved_prefix` is five bytes, the letter u twice and then three underscores, tested on identifiers only" (`ident`)
 abbrev pub reserved-prefix : Bytes
 reserved-prefix = cps "uu___"
 
 unfoldable pub starts-with : Bytes → Bytes → Bool
 starts-with id prefix = same (take (length prefix) id) prefix
 
--- the entry of a table that a choice names
-abbrev pub entry : List Entry → ℕ → Entry
-entry table w = getD table w ("", "", "")
-
--- ---- the rules. st is the state at the choice, e the part's end, w the word of the place's table
+-- ---- the rules. st is the state at the choice, e the part's end
 
 -- `finish`
 abbrev pub finish : Bytes → State → ℕ → ℕ → Bytes → Token-turn
@@ -48,7 +83,7 @@ finish s st e k text = let next = advance st e in done (tok k text (cur-pos s st
 
 -- a token of a kind and a text that a table has
 abbrev pub finish-entry : Bytes → State → ℕ → Entry → Token-turn
-finish-entry s st e x = finish s st e (kind (x .1)) (cps (x .2))
+finish-entry s st e x = finish s st e (kind (x .kind)) (cps (x .text))
 
 -- a token that its word decides, or the kind and text given where it is no word of the table
 abbrev pub finish-word : Bytes → State → ℕ → List Entry → String → Token-turn
@@ -57,8 +92,8 @@ finish-word s st e table k =
     elim (find id table) [ some x ↦ finish-entry s st e x | none ↦ finish s st e (kind k) id ]
 
 -- the header of a blob whose name begins after n bytes
-abbrev pub header : Bytes → State → ℕ → ℕ → Header
-header s st e n = record { name = lexeme s (st .offset + n) e; pos = pos-of s st e; snap = cur-pos s st }
+abbrev pub blob-header : Bytes → State → ℕ → ℕ → Header
+blob-header s st e n = record { name = lexeme s (st .offset + n) e; pos = pos-of s st e; snap = cur-pos s st }
 
 -- `RCharLit`, `RCharLitB`
 abbrev pub char-lit : Bytes → State → ℕ → Token-turn
@@ -66,13 +101,13 @@ char-lit s st e =
     let next = advance st e in
     done (tok (kind "CHAR") [] (cur-pos s st) (cur-pos s next) (CharLit (unescape s (st .offset + 1))) next)
 
--- `RKwOp`: x is the word, its plain kind, and its kind before operator characters
-abbrev pub kw-op : Bytes → State → ℕ → Entry → Token-turn
+-- `RKwOp`
+abbrev pub kw-op : Bytes → State → ℕ → KwOp → Token-turn
 kw-op s st e x =
     let i = st .offset in
     let next = advance st (no-comment s i e) in
-    let rest = lexeme s (i + length (cps (x .0))) (next .offset) in
-    done (tok (elim rest [ [] ↦ kind (x .1) | b ∷ l ↦ kind (x .2) ]) rest (cur-pos s st) (cur-pos s next) NoExtra next)
+    let rest = lexeme s (i + length (cps (x .word))) (next .offset) in
+    done (tok (elim rest [ [] ↦ kind (x .kind) | b ∷ l ↦ kind (x .op-kind) ]) rest (cur-pos s st) (cur-pos s next) NoExtra next)
 
 -- `RIdent`
 abbrev pub ident : Bytes → State → ℕ → Token-turn
@@ -122,77 +157,49 @@ op s st e k =
 
 -- `RAny`: "unexpected char"
 abbrev pub any : Bytes → State → Token-turn
-any s st = done (lex-error s st 6 [] (cur-pos s st) (cur-pos s st))
+any s st = done (error-here s st 6)
 
--- what each place does, in order
-abbrev pub Rule : Type 0
-Rule = State → ℕ → ℕ → Token-turn
+-- what each rule does with a choice that ends at e, in the source's order
+abbrev pub by-rule : Bytes → Bytes → Bytes → State → ℕ → Rule → Token-turn
+by-rule s name f st e (REarly k) = finish s st e (kind k) []
+by-rule s name f st e RTripleBacktick = done (blob s (blob-header s st e 3) (advance st e))
+by-rule s name f st e RLang = done (use-lang s (blob-header s st e 6) (advance st e))
+by-rule s name f st e RSourceFile = finish s st e (kind "STRING") name
+by-rule s name f st e RLine = finish s st e (kind "INT") (show (st .line))
+by-rule s name f st e RFileLine = finish s st e (kind "STRING") (name ++ (cps "(" ++ (show (st .line) ++ cps ")")))
+by-rule s name f st e RWhite = again (advance st e)
+by-rule s name f st e RNewline = again (new-line (advance st e))
+by-rule s name f st e RCharLit = char-lit s st e
+by-rule s name f st e RCharLitB = char-lit s st e
+by-rule s name f st e RBacktick = finish s st e (kind "BACKTICK") []
+by-rule s name f st e (RKwOp x) = kw-op s st e x
+by-rule s name f st e RSemiSemi = finish s st e (kind "SEMICOLON_OP") []
+by-rule s name f st e RIdent = ident s st e
+by-rule s name f st e RConstructor = finish-word s st e constructors "NAME"
+by-rule s name f st e RInt = number s st e "INT"
+by-rule s name f st e RUInt8 = uint8 s st e
+by-rule s name f st e (RNumber k) = number s st e k
+by-rule s name f st e RReal = finish s st e (kind "REAL") (lexeme s (st .offset) (e - 1))
+by-rule s name f st e RBadNumber = bad-number s st e
+by-rule s name f st e RCommentStart = comment-start s st e
+by-rule s name f st e RInFStar = again (advance st e)
+by-rule s name f st e RLineComment = done (line-comment s (lexeme s (st .offset) e) (advance st e))
+by-rule s name f st e RString = done (string-lit s f (advance st e) (cur-pos s st))
+by-rule s name f st e RBacktickIdent = finish s st e (kind "IDENT") (lexeme s (st .offset + 2) (e - 2))
+by-rule s name f st e RPipeLeft = finish s st e (kind "PIPE_LEFT") []
+by-rule s name f st e RPipeRight = finish s st e (kind "PIPE_RIGHT") []
+by-rule s name f st e RDotDot = finish s st e (kind "DOT_DOT") []
+by-rule s name f st e (ROpToken k text) = finish s st e (kind k) (cps text)
+by-rule s name f st e RLt = finish s st e (kind "OPINFIX0c") (cps "<")
+by-rule s name f st e RGt = gt s st e
+by-rule s name f st e (ROp k) = op s st e k
+by-rule s name f st e RUOperator = finish-word s st e uoperators "OPINFIX4"
+by-rule s name f st e (RMixfix k) = finish s st e (kind k) (lexeme s (st .offset) e)
+by-rule s name f st e RAny = any s st
 
-unfoldable pub rules : Bytes → Bytes → Bytes → List Rule
-rules s name f =
-    let skip : Rule = λ st e w. again (advance st e) in
-    let fixed : String → Rule = λ k st e w. finish s st e (kind k) [] in
-    let numbers : String → Rule = λ k st e w. number s st e k in
-    let operators : String → Rule = λ k st e w. op s st e k in
-    (λ st e w. finish s st e (kind (entry early-literals w .1)) [])  -- 1 REarly
-    ∷ (λ st e w. done (blob s (header s st e 3) (advance st e)))  -- 2 RTripleBacktick
-    ∷ (λ st e w. done (use-lang s (header s st e 6) (advance st e)))  -- 3 RLang
-    ∷ (λ st e w. finish s st e (kind "STRING") name)  -- 4 RSourceFile
-    ∷ (λ st e w. finish s st e (kind "INT") (show (st .line)))  -- 5 RLine
-    ∷ (λ st e w. finish s st e (kind "STRING") (name ++ (cps "(" ++ (show (st .line) ++ cps ")"))))  -- 6 RFileLine
-    ∷ skip  -- 7 RWhite
-    ∷ (λ st e w. again (new-line (advance st e)))  -- 8 RNewline
-    ∷ (λ st e w. char-lit s st e)  -- 9 RCharLit
-    ∷ (λ st e w. char-lit s st e)  -- 10 RCharLitB
-    ∷ fixed "BACKTICK"  -- 11 RBacktick
-    ∷ (λ st e w. kw-op s st e (entry kw-op-rules w))  -- 12 RKwOp
-    ∷ fixed "SEMICOLON_OP"  -- 13 RSemiSemi
-    ∷ (λ st e w. ident s st e)  -- 14 RIdent
-    ∷ (λ st e w. finish-word s st e constructors "NAME")  -- 15 RConstructor
-    ∷ numbers "INT"  -- 16 RInt
-    ∷ (λ st e w. uint8 s st e)  -- 17 RUInt8
-    ∷ numbers "INT8"  -- 18 RNumber INT8
-    ∷ numbers "UINT16"  -- 19 RNumber UINT16
-    ∷ numbers "INT16"  -- 20 RNumber INT16
-    ∷ numbers "UINT32"  -- 21 RNumber UINT32
-    ∷ numbers "INT32"  -- 22 RNumber INT32
-    ∷ numbers "UINT64"  -- 23 RNumber UINT64
-    ∷ numbers "INT64"  -- 24 RNumber INT64
-    ∷ numbers "SIZET"  -- 25 RNumber SIZET
-    ∷ (λ st e w. finish s st e (kind "REAL") (lexeme s (st .offset) (e - 1)))  -- 26 RReal
-    ∷ (λ st e w. bad-number s st e)  -- 27 RBadNumber
-    ∷ (λ st e w. comment-start s st e)  -- 28 RCommentStart
-    ∷ skip  -- 29 RInFStar
-    ∷ (λ st e w. done (line-comment s (lexeme s (st .offset) e) (advance st e)))  -- 30 RLineComment
-    ∷ (λ st e w. done (string-lit s f (advance st e) (cur-pos s st)))  -- 31 RString
-    ∷ (λ st e w. finish s st e (kind "IDENT") (lexeme s (st .offset + 2) (e - 2)))  -- 32 RBacktickIdent
-    ∷ fixed "PIPE_LEFT"  -- 33 RPipeLeft
-    ∷ fixed "PIPE_RIGHT"  -- 34 RPipeRight
-    ∷ fixed "DOT_DOT"  -- 35 RDotDot
-    ∷ (λ st e w. finish-entry s st e (entry op-tokens w))  -- 36 ROpToken
-    ∷ (λ st e w. finish s st e (kind "OPINFIX0c") (cps "<"))  -- 37 RLt
-    ∷ (λ st e w. gt s st e)  -- 38 RGt
-    ∷ operators "OPINFIX3R"  -- 39 ROp OPINFIX3R
-    ∷ operators "OPINFIX4"  -- 40 ROp OPINFIX4
-    ∷ operators "OPPREFIX"  -- 41 ROp OPPREFIX
-    ∷ operators "OPINFIX0a"  -- 42 ROp OPINFIX0a
-    ∷ operators "OPINFIX0b"  -- 43 ROp OPINFIX0b
-    ∷ operators "OPINFIX0c"  -- 44 ROp OPINFIX0c
-    ∷ operators "OPINFIX0d"  -- 45 ROp OPINFIX0d
-    ∷ operators "OPINFIX1"  -- 46 ROp OPINFIX1
-    ∷ operators "OPINFIX2"  -- 47 ROp OPINFIX2
-    ∷ operators "OPINFIX3L"  -- 48 ROp OPINFIX3L
-    ∷ (λ st e w. finish-word s st e uoperators "OPINFIX4")  -- 49 RUOperator
-    ∷ (λ st e w. finish s st e (kind (entry mixfix-rules w .1)) (lexeme s (st .offset) e))  -- 50 RMixfix
-    ∷ []
-
--- what is done with a choice; place 0 is none of the rules
+-- what is done with a choice
 unfoldable pub act : Bytes → Bytes → Bytes → State → Choice → Token-turn
-act s name f st c =
-    elim (eqb (c .place) 0) [
-      | true ↦ any s st
-      | false ↦ getD (rules s name f) (c .place - 1) (λ st e w. any s st) st (c .end) (c .word)
-    ]
+act s name f st c = by-rule s name f st (c .end) (rule-of c)
 
 -- one call of `next_token`
 unfoldable pub token-turn : Bytes → Bytes → Bytes → State → Token-turn
@@ -203,7 +210,7 @@ token-turn s name f st =
     ]
 
 unfoldable pub next-token : Bytes → Bytes → Bytes → State → Step
-next-token s name f st = loop (token-turn s name f) (λ a. lex-error s a 6 [] (cur-pos s a) (cur-pos s a)) (fuel s) st
+next-token s name f st = loop (token-turn s name f) (λ a. error-here s a 6) (fuel s) st
 
 -- ---- a step: the next item from a state that has not ended. In mode 1 it is the next piece of the comment that is open
 

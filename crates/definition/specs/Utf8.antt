@@ -22,7 +22,7 @@ encode c =
 -- a Unicode scalar value: up to 10FFFF, and no surrogate
 pub record Scalar (c : ℕ) : Type 0 where
   pub small : c ≤ 0x10FFFF
-  pub plain : (c < 0xD800) ⊎ (0xE000 ≤ c)
+  pub no-surrogate : (c < 0xD800) ⊎ (0xE000 ≤ c)
 
 abbrev pub Scalars : List ℕ → Type 0
 Scalars [] = Unit {0}
