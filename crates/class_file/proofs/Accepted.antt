@@ -12,7 +12,7 @@ use lib.ListN.{length, getD, drop}
 use lib.Seq.{drop-drop}
 use borrow.Author.Tests.{eqb-true, le-ltb, lt-ltb, eq-eqb, ne-eqb}
 use Rattle.definition.specs.Basics.{Bytes}
-use Rattle.definition.specs.ClassFile.{Range, little-endian, class-count, class-offset, counts-before, place-of, read-ranges, ranges-of, bad-class-length, offsets-right, laid-out, ascending, ranges-right, class-check}
+use Rattle.definition.specs.ClassFile.{Range, little-endian, class-count, class-offset, counts-before, class-start, read-ranges, ranges-of, bad-class-length, offsets-right, laid-out, ascending, ranges-right, class-check}
 use Rattle.class_file.specs.Ends.{first-at, last-at}
 use Rattle.lemmas.proofs.Cases.{by-bool, by-order, never}
 use Rattle.class_file.proofs.Tests.{all-each, all-more, all-fails}
@@ -20,33 +20,33 @@ use Rattle.class_file.proofs.Tests.{all-each, all-more, all-fails}
 -- ---- the places of the classes
 
 -- the next class begins where the ranges of this one end
-pub place-next : (f : Bytes) (k : ℕ) → place-of f (suc k) ≡ place-of f k + 8 * class-count f k
-unfolding place-of counts-before
+pub place-next : (f : Bytes) (k : ℕ) → class-start f (suc k) ≡ class-start f k + 8 * class-count f k
+unfolding class-start counts-before
 place-next f k = omega arith
 
 -- the first class begins after the header
-pub place-first : (f : Bytes) → place-of f 0 ≡ 48
-unfolding place-of counts-before
+pub place-first : (f : Bytes) → class-start f 0 ≡ 48
+unfolding class-start counts-before
 place-first f = refl
 
 -- the places never fall
-pub place-rises : (f : Bytes) (j k : ℕ) → j ≤ k → place-of f j ≤ place-of f k
-place-rises f zero zero h = le-refl (place-of f 0)
+pub place-rises : (f : Bytes) (j k : ℕ) → j ≤ k → class-start f j ≤ class-start f k
+place-rises f zero zero h = le-refl (class-start f 0)
 place-rises f (suc j) zero h = absurd (not-suc-le-zero h)
 place-rises f j (suc k) h =
-    ⊎-elim (λ e. rw e (le-refl (place-of f (suc k))))
+    ⊎-elim (λ e. rw e (le-refl (class-start f (suc k))))
     (λ l. omega (arith, place-rises f j k (le-of-suc-le-suc l), place-next f k))
     (eq-or-lt-of-le h)
 
 -- every class begins after the header
-pub place-after-header : (f : Bytes) (k : ℕ) → 48 ≤ place-of f k
+pub place-after-header : (f : Bytes) (k : ℕ) → 48 ≤ class-start f k
 place-after-header f k = omega (arith, place-first f, place-rises f 0 k zero-le)
 
 -- ---- the layout
 
 -- the offset of class k is right
 abbrev offset-test : Bytes → ℕ → Bool
-offset-test f k = eqb (class-offset f k) (place-of f k)
+offset-test f k = eqb (class-offset f k) (class-start f k)
 
 -- the test of the offsets asks each class in turn, the last first
 offsets-step : (f : Bytes) (k : ℕ) → offsets-right f (suc k) ≡ elim (offset-test f k) [ true ↦ offsets-right f k | false ↦ false ]
@@ -56,7 +56,7 @@ offsets-step f k = refl
 -- the offsets before k are right, and place is that of class k; no place is above 48 + 6 * 2^35
 pub record Placed (f : Bytes) (k place : ℕ) : Type 0 where
   pub classes : k ≤ 6
-  pub placed : place ≡ place-of f k
+  pub placed : place ≡ class-start f k
   pub right : offsets-right f k ≡ true
   pub bounded : place ≤ 48 + 34359738368 * k
 
@@ -70,7 +70,7 @@ pub placed-next : (f : Bytes) (k place count : ℕ) → Placed f k place → k <
 placed-next f k place count p h small e o = record {
   classes = omega arith;
   placed = rw add-one (omega (arith, place-next f k));
-  right = all-more (offset-test f) (offsets-right f) (offsets-step f) k (p .right) (eq-eqb (class-offset f k) (place-of f k) (o ∙ p .placed));
+  right = all-more (offset-test f) (offsets-right f) (offsets-step f) k (p .right) (eq-eqb (class-offset f k) (class-start f k) (o ∙ p .placed));
   bounded = omega arith;
 }
 
@@ -78,7 +78,7 @@ placed-next f k place count p h small e o = record {
 pub placed-wrong : (f : Bytes) (k place : ℕ) → Placed f k place → k < 6 → (class-offset f k ≡ place → ⊥) → laid-out f ≡ false
 unfolding laid-out
 placed-wrong f k place p h wrong =
-    rw (laid-out, all-fails (offset-test f) (offsets-right f) (offsets-step f) 6 k h (ne-eqb (class-offset f k) (place-of f k) (λ e. wrong (e ∙ sym (p .placed)))))
+    rw (laid-out, all-fails (offset-test f) (offsets-right f) (offsets-step f) 6 k h (ne-eqb (class-offset f k) (class-start f k) (λ e. wrong (e ∙ sym (p .placed)))))
 
 -- past the last class only the length is left
 pub placed-end : (f : Bytes) (k place : ℕ) → Placed f k place → 6 ≤ k → laid-out f ≡ eqb (length f) place
@@ -91,20 +91,20 @@ placed-end f k place p h =
 
 -- a file that is laid out as document 01 says
 pub record Laid (f : Bytes) : Type 0 where
-  pub offset : (k : ℕ) → k < 6 → class-offset f k ≡ place-of f k
-  pub whole : length f ≡ place-of f 6
+  pub offset : (k : ℕ) → k < 6 → class-offset f k ≡ class-start f k
+  pub whole : length f ≡ class-start f 6
 
 -- the definition's test says so
 pub laid : (f : Bytes) → laid-out f ≡ true → Laid f
 unfolding laid-out
 laid f =
-    by-bool (λ t. (t && eqb (length f) (place-of f 6)) ≡ true → Laid f) (offsets-right f 6)
-    (λ o e. record { offset = λ k h. eqb-true (class-offset f k) (place-of f k) (all-each (offset-test f) (offsets-right f) (offsets-step f) 6 o k h); whole = eqb-true (length f) (place-of f 6) e })
+    by-bool (λ t. (t && eqb (length f) (class-start f 6)) ≡ true → Laid f) (offsets-right f 6)
+    (λ o e. record { offset = λ k h. eqb-true (class-offset f k) (class-start f k) (all-each (offset-test f) (offsets-right f) (offsets-step f) 6 o k h); whole = eqb-true (length f) (class-start f 6) e })
     (λ o e. never e)
 
 module _ (f : Bytes) (l : Laid f) where
   -- the ranges of a class lie within the file
-  pub class-within : (k : ℕ) → k < 6 → place-of f k + 8 * class-count f k ≤ length f
+  pub class-within : (k : ℕ) → k < 6 → class-start f k + 8 * class-count f k ≤ length f
   class-within k h = omega (arith, place-next f k, place-rises f (suc k) 6 h, l .whole)
 
   -- and so does the header
@@ -122,7 +122,7 @@ length-read (suc n) l = ap suc (length-read n (drop 8 l))
 -- a class has as many ranges as the header counts
 pub length-ranges : (f : Bytes) (k : ℕ) → length (ranges-of f k) ≡ class-count f k
 unfolding ranges-of
-length-ranges f k = length-read (class-count f k) (drop (place-of f k) f)
+length-ranges f k = length-read (class-count f k) (drop (class-start f k) f)
 
 -- the numbers of range i stand 8 * i bytes after the first
 read-at : (n : ℕ) (l : Bytes) (i : ℕ) → i < n → getD (read-ranges n l) i (0, 0) ≡ (little-endian (drop (8 * i) l), little-endian (drop (8 * i + 4) l))
@@ -135,11 +135,11 @@ read-at (suc n) l (suc i) h =
     rw (drop-drop (8 * i) 8 l, drop-drop (8 * i + 4) 8 l, e, q) at (read-at n (drop 8 l) i (le-of-suc-le-suc h))
 
 -- class k begins at start and has more than i ranges
-module _ (f : Bytes) (k i start count n : ℕ) (from : start ≡ place-of f k) (counted : count ≡ class-count f k) (h : i < count) where
+module _ (f : Bytes) (k i start count n : ℕ) (from : start ≡ class-start f k) (counted : count ≡ class-count f k) (h : i < count) where
   -- range i stands 8 * i bytes after the class's start
   range-read : getD (ranges-of f k) i (0, 0) ≡ (little-endian (drop (8 * i) (drop start f)), little-endian (drop (8 * i + 4) (drop start f)))
   unfolding ranges-of
-  range-read = rw from (read-at (class-count f k) (drop (place-of f k) f) i (rw counted at h))
+  range-read = rw from (read-at (class-count f k) (drop (class-start f k) f) i (rw counted at h))
 
   -- a number that is read there is its first code point
   pub first-read : n ≡ little-endian (drop (start + 8 * i) f) → n ≡ first-at (ranges-of f k) i
@@ -200,8 +200,8 @@ pub record Accepted (f : Bytes) : Type 0 where
   pub laid-right : laid-out f ≡ true
   pub long : 48 ≤ length f
   pub short : length f ≤ 65536
-  pub offset : (k : ℕ) → k < 6 → class-offset f k ≡ place-of f k
-  pub within : (k : ℕ) → k < 6 → place-of f k + 8 * class-count f k ≤ length f
+  pub offset : (k : ℕ) → k < 6 → class-offset f k ≡ class-start f k
+  pub within : (k : ℕ) → k < 6 → class-start f k + 8 * class-count f k ≤ length f
   pub few : (k : ℕ) → k < 6 → class-count f k ≤ (length f - 48) / 8
   pub ascends : (k : ℕ) → k < 6 → ascending 0 (ranges-of f k) ≡ true
 

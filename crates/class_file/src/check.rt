@@ -3,7 +3,7 @@ ghost use mathlib.Core.Path.{_≡_};
 ghost use mathlib.Core.Bool.{true};
 ghost use Prim.Native.Nat.{_+_, _≤_, _<_};
 ghost use lib.ListN.{length, drop};
-ghost use Rattle.definition.specs.ClassFile.{little-endian, class-count, place-of, ranges-of, laid-out, ascending, ranges-right, class-check};
+ghost use Rattle.definition.specs.ClassFile.{little-endian, class-count, class-start, ranges-of, laid-out, ascending, ranges-right, class-check};
 
 const CLASSES: usize = 6;
 
@@ -34,7 +34,7 @@ pub fn class_count(file: &[u8], k: usize) -> usize
 // Where the ranges of class k begin.
 pub fn class_start(file: &[u8], k: usize) -> usize
     requires { ⌜ (laid-out (now file) ≡ true) × (k < 6) ⌝ }
-    ensures { λ r. ⌜ r ≡ place-of (now (file .entry)) k ⌝ }
+    ensures { λ r. ⌜ r ≡ class-start (now (file .entry)) k ⌝ }
 {
     number_at(file, 8 * k + 4) as usize
 }

@@ -42,8 +42,8 @@ counts-before f zero = 0
 counts-before f (suc k) = counts-before f k + class-count f k
 
 -- "A class's offset is 48 plus 8 times the sum of earlier counts"; past the last class, the length of the file
-unfoldable pub ranges-start : Bytes → ℕ → ℕ
-ranges-start f k = header-size + 8 * counts-before f k
+unfoldable pub class-start : Bytes → ℕ → ℕ
+class-start f k = header-size + 8 * counts-before f k
 
 -- n ranges from the front of l
 unfoldable pub read-ranges : ℕ → Bytes → List Range
@@ -52,7 +52,7 @@ read-ranges (suc n) l = (little-endian l, little-endian (drop 4 l)) ∷ read-ran
 
 -- the ranges of class k
 unfoldable pub ranges-of : Bytes → ℕ → List Range
-ranges-of f k = read-ranges (class-count f k) (drop (ranges-start f k) f)
+ranges-of f k = read-ranges (class-count f k) (drop (class-start f k) f)
 
 -- ---- the class check
 
@@ -63,11 +63,11 @@ bad-class-length n = ltb n header-size || ltb 65536 n
 -- the offsets of the first k classes are right
 unfoldable pub offsets-right : Bytes → ℕ → Bool
 offsets-right f zero = true
-offsets-right f (suc k) = elim (eqb (class-offset f k) (ranges-start f k)) [ true ↦ offsets-right f k | false ↦ false ]
+offsets-right f (suc k) = elim (eqb (class-offset f k) (class-start f k)) [ true ↦ offsets-right f k | false ↦ false ]
 
 -- refusal 4 is for a file that is not laid out so
 unfoldable pub laid-out : Bytes → Bool
-laid-out f = offsets-right f classes-in-file && eqb (length f) (ranges-start f classes-in-file)
+laid-out f = offsets-right f classes-in-file && eqb (length f) (class-start f classes-in-file)
 
 -- each range begins at n or later and above the one before, ends at or after its first code point, and at 1,114,111 at most
 unfoldable pub ascending : ℕ → List Range → Bool

@@ -17,7 +17,7 @@ use Rattle.definition.specs.ClassFile.{
   class-count,
   class-offset,
   counts-before,
-  ranges-start,
+  class-start,
   read-ranges,
   ranges-of,
   bad-class-length,
@@ -133,7 +133,7 @@ unfoldable pub listed : Bytes → Bytes → List (List ℕ)
 unfolding
     read-back said
     loop mem-cp same encode encode-all tail-bits two three-bytes three four-bytes four sequence sequence-at char-has byte-has star first-bad
-    in-ranges little-endian class-count class-offset counts-before ranges-start read-ranges ranges-of bad-class-length offsets-right laid-out
+    in-ranges little-endian class-count class-offset counts-before class-start read-ranges ranges-of bad-class-length offsets-right laid-out
     ascending ranges-right class-check is-lu is-lt is-lo is-lm is-zs is-sm ll-tbl is-ll is-digit is-hex count-up ascii-table in-table
     is-op-char is-symbolchar is-lower is-ident-start is-constructor-start is-ident-char is-anywhite is-newline-char is-uoperator
     is-continuation weight-at count-chars col-by kind-names number-from kind cps find keywords constructors op-tokens uoperators

@@ -36,9 +36,12 @@ as-kw-ops = map (λ x. record { word = x .0; kind = x .1; op-kind = x .2 })
 abbrev pub words-of : List Entry → List String
 words-of = map (λ e. e .word)
 
--- the entry of a table by its number
+-- the entry of a table by its number; one without words past the last
+abbrev pub no-entry : Entry
+no-entry = record { word = ""; kind = ""; text = "" }
+
 abbrev pub entry : List Entry → ℕ → Entry
-entry table w = getD table w (record { word = ""; kind = ""; text = "" })
+entry table w = getD table w no-entry
 
 -- `M.try_find`
 unfoldable pub find : Bytes → List Entry → Option Entry
@@ -123,8 +126,11 @@ kw-op-rules =
 abbrev pub kw-op-words : List String
 kw-op-words = map (λ x. x .word) kw-op-rules
 
+abbrev pub no-kw-op : KwOp
+no-kw-op = record { word = ""; kind = ""; op-kind = "" }
+
 abbrev pub kw-op-entry : ℕ → KwOp
-kw-op-entry w = getD kw-op-rules w (record { word = ""; kind = ""; op-kind = "" })
+kw-op-entry w = getD kw-op-rules w no-kw-op
 
 unfoldable pub mixfix-rules : List Entry
 mixfix-rules =

@@ -12,8 +12,8 @@ use Rattle.definition.specs.Basics.{Bytes, Turn, loop, fuel, ch}
 use Rattle.definition.specs.Text.{byte-is}
 use Rattle.definition.specs.Chars.{is-newline-char}
 use Rattle.definition.specs.Matchers.{only, one, backtick-turn, match-backtick-ident}
-use Rattle.definition.specs.Regex.{Re, seq, alt, some}
-use Rattle.definition.specs.Patterns.{text, plain}
+use Rattle.definition.specs.Regex.{Re, seq, alt, at-least-one}
+use Rattle.definition.specs.Patterns.{text, backtick-free}
 use Rattle.definition.specs.declared.Match.{Match}
 use Rattle.definition.specs.declared.Match.the-variants.{To, Nothing}
 use Rattle.lemmas.proofs.Cases.{by-match}
@@ -31,7 +31,7 @@ ok c = not (eqb c (ch "`")) && not (is-newline-char c)
 
 -- One such, or one behind a backtick.
 abbrev item : Re
-item = alt plain (seq (text "`") plain)
+item = alt backtick-free (seq (text "`") backtick-free)
 
 -- A backtick is none.
 ok-or-tick : (c : ℕ) → ok c ≡ true → eqb c (ch "`") ≡ true → ⊥
@@ -42,7 +42,7 @@ module _ (s : Bytes) where
 
   -- It ends in one place.
   item-single : (j : ℕ) → Single (At s item j)
-  item-single j = single-alt (step-single s) (at-single s (seq (text "`") plain) j refl) (λ a b x y. apart s plain (seq (text "`") plain) j a b refl refl ok-or-tick x y)
+  item-single j = single-alt (step-single s) (at-single s (seq (text "`") backtick-free) j refl) (λ a b x y. apart s backtick-free (seq (text "`") backtick-free) j a b refl refl ok-or-tick x y)
 
   -- It ends within the text.
   item-within : (j k : ℕ) → At s item j k → k ≤ length s
@@ -51,13 +51,13 @@ module _ (s : Bytes) where
 
   -- None stands where two backticks do.
   item-or-ticks : (j k e : ℕ) → At s item j k → At s (text "``") j e → ⊥
-  item-or-ticks j k e (inl a) b = apart s plain (text "``") j k e refl refl ok-or-tick a b
+  item-or-ticks j k e (inl a) b = apart s backtick-free (text "``") j k e refl refl ok-or-tick a b
   item-or-ticks j k e (inr (m, (m′, a, q), x)) (n, b, (n′, y, r)) =
       let z : m ≡ n = sym q ∙ step-same a b .0 in
       ok-or-tick (x .code) (x .passes) (step-same x (subst (λ (v : ℕ). Step s (λ c. eqb c (ch "`")) v n′) (sym z) y) .1)
 
   -- A backtick and a character behind it are found by the second test of a turn.
-  behind-right : (j : ℕ) → Right (At s (seq (text "`") plain) j) (only (byte-is (ch "`") s j) (one ok s (j + 1)))
+  behind-right : (j : ℕ) → Right (At s (seq (text "`") backtick-free) j) (only (byte-is (ch "`") s j) (one ok s (j + 1)))
   behind-right j = right-letter s (ch "`") (omega arith) j (j + 1) refl (λ _. one-right s ok (j + 1))
 
   -- Two backticks are found by their tests.
@@ -134,16 +134,16 @@ module _ (s : Bytes) where
     loop-right = loop-gives turns (λ a. Nothing) (fuel s) start (record { to = λ e x. x; from = λ e x. x }) (omega arith)
 
   -- `match-backtick-ident` finds the end of a name in backticks.
-  pub backtick-right : (i : ℕ) → Right (At s (seq (text "``") (seq (some item) (text "``"))) i) (match-backtick-ident s i)
+  pub backtick-right : (i : ℕ) → Right (At s (seq (text "``") (seq (at-least-one item) (text "``"))) i) (match-backtick-ident s i)
   unfolding match-backtick-ident
   backtick-right i =
       right-head (i + 2) (byte-is (ch "`") s i && byte-is (ch "`") s (i + 1)) (at-single s (text "``") i refl) (ticks-right i)
       (λ _. right-map out into (loop-right (i + 2, 0)))
     where
-      out : (e : ℕ) → Left (i + 2, 0) e → At s (seq (some item) (text "``")) (i + 2) e
+      out : (e : ℕ) → Left (i + 2, 0) e → At s (seq (at-least-one item) (text "``")) (i + 2) e
       out e (m, step k a c, h, t) = (m, (k, a, c), t)
       out e (m, stop q, inl h, t) = absurd (omega arith)
       out e (m, stop q, inr h, t) = absurd (omega arith)
 
-      into : (e : ℕ) → At s (seq (some item) (text "``")) (i + 2) e → Left (i + 2, 0) e
+      into : (e : ℕ) → At s (seq (at-least-one item) (text "``")) (i + 2) e → Left (i + 2, 0) e
       into e (m, (k, a, c), t) = (m, step k a c, inr (omega (arith, at-ahead s item (i + 2) k refl a, chain-forward s (at-forward s item) c)), t)

@@ -15,7 +15,7 @@ use borrow.Author.Tests.{eqb-true, lt-ltb}
 use Rattle.definition.specs.Basics.{Bytes, ch, codes, mem-cp, between}
 use Rattle.definition.specs.Chars.{is-digit, is-hex, is-ident-char}
 use Rattle.definition.specs.Matchers.{_then_, later, max-list, plus, match-integer, any-integer-ends, match-bad-number}
-use Rattle.definition.specs.Regex.{Re, eps, chr, seq, alt, many, some}
+use Rattle.definition.specs.Regex.{Re, eps, chr, seq, alt, many, at-least-one}
 use Rattle.definition.specs.Samples.{nullable}
 use Rattle.definition.specs.Patterns.{integer, xinteger, floatp, floate, ieee64, xieee64}
 use Rattle.definition.specs.declared.Match.{Match}
@@ -80,7 +80,7 @@ module _ (s : Bytes) (p : ℕ → Bool) where
   run-rest {k = k} (step m a c) (step n b d) h = run-rest c (subst (λ (x : ℕ). Chain (Step s p) x k) (step-same b a .0) d) h
 
   -- A run that leads on has a character or more.
-  run-some : {i e : ℕ} → Chain (Step s p) i e → i < e → At s (some (chr p)) i e
+  run-some : {i e : ℕ} → Chain (Step s p) i e → i < e → At s (at-least-one (chr p)) i e
   run-some (stop q) h = absurd (omega arith)
   run-some (step m a c) h = (m, a, c)
 
@@ -161,7 +161,7 @@ number = alt integer (alt xinteger (alt ieee64 xieee64))
 
 -- One or more characters of identifiers.
 abbrev pub letters : Bytes → Re
-letters f = some (chr (is-ident-char f))
+letters f = at-least-one (chr (is-ident-char f))
 
 -- What one of two answers reaches the later one does.
 pub reaches-later : (m n : Match) (k : ℕ) → Reaches k m ⊎ Reaches k n → Reaches k (later m n)
@@ -170,7 +170,7 @@ reaches-later m n k = right-later (itself m) (itself n) .top k
     itself : (m : Match) → Right (λ k. Reaches k m) m
     itself m = record { fits = λ e q. (e, q, omega arith); top = λ k h. h }
 
--- So does the latest of some answers.
+-- So does the latest of at-least-one answers.
 reaches-max : (ms : List Match) (n k : ℕ) → Reaches k (getD ms n Nothing) → Reaches k (max-list ms)
 unfolding max-list
 reaches-max [] n k h = h

@@ -11,7 +11,7 @@ use native.Mathlib.Decide.{ℕ-discrete}
 use native.Mathlib.Omega.{arith}
 use lib.ListN.{length, getD}
 use Rattle.definition.specs.Basics.{Bytes}
-use Rattle.definition.specs.Tables.{Entry, cps}
+use Rattle.definition.specs.Tables.{cps}
 use Rattle.definition.specs.Select.{none-at, keep, found, try-words, try-all}
 use Rattle.definition.specs.declared.Choice.{Choice}
 use Rattle.definition.specs.declared.Match.{Match}
@@ -70,19 +70,19 @@ module _ {i k : ℕ} where
 -- ---- a table of words
 
 -- Q holds of a word of the table.
-abbrev pub One-of : (String → Type 0) → List Entry → Type 0
+abbrev pub One-of : (String → Type 0) → List String → Type 0
 One-of Q [] = ⊥
-One-of Q (e ∷ es) = Q (e .0) ⊎ One-of Q es
+One-of Q (e ∷ es) = Q e ⊎ One-of Q es
 
 -- Every word of the table passes a test.
-abbrev pub all-words : (String → Bool) → List Entry → Bool
+abbrev pub all-words : (String → Bool) → List String → Bool
 all-words t [] = true
-all-words t (e ∷ es) = t (e .0) && all-words t es
+all-words t (e ∷ es) = t e && all-words t es
 
 -- The choice among the words of a table, where each has its matcher, is the longest, and no shorter than the choice before.
 pub picks-words : (i k : ℕ) (t : String → Bool) {Q : String → ℕ → Type 0} (m : Bytes → Match)
     → ((x : String) (e : ℕ) → Q x e → i ≤ e) → ((x : String) → t x ≡ true → Right (Q x) (m (cps x)))
-    → (w : ℕ) (es : List Entry) → all-words t es ≡ true → {P : ℕ → Type 0} {b : Choice} → Picks P i k b
+    → (w : ℕ) (es : List String) → all-words t es ≡ true → {P : ℕ → Type 0} {b : Choice} → Picks P i k b
     → Picks (λ e. P e ⊎ One-of (λ x. Q x e) es) i k (try-words i k m w es b)
 unfolding try-words
 picks-words i k t m ahead r w [] h {P} b = picks-map (λ e p. inl p) back b
@@ -91,15 +91,15 @@ picks-words i k t m ahead r w [] h {P} b = picks-map (λ e p. inl p) back b
     back e (inl p) = p
     back e (inr q) = absurd q
 picks-words i k t {Q} m ahead r w (x ∷ es) h {P} b =
-    let g = both (t (x .0)) (all-words t es) h in
-    picks-map to from (picks-words i k t m ahead r (suc w) es (g .1) (picks-keep b (picks-found w (ahead (x .0)) (r (x .0) (g .0)))))
+    let g = both (t x) (all-words t es) h in
+    picks-map to from (picks-words i k t m ahead r (suc w) es (g .1) (picks-keep b (picks-found w (ahead x) (r x (g .0)))))
   where
-    to : (e : ℕ) → (P e ⊎ Q (x .0) e) ⊎ One-of (λ y. Q y e) es → P e ⊎ One-of (λ y. Q y e) (x ∷ es)
+    to : (e : ℕ) → (P e ⊎ Q x e) ⊎ One-of (λ y. Q y e) es → P e ⊎ One-of (λ y. Q y e) (x ∷ es)
     to e (inl (inl p)) = inl p
     to e (inl (inr q)) = inr (inl q)
     to e (inr o) = inr (inr o)
 
-    from : (e : ℕ) → P e ⊎ One-of (λ y. Q y e) (x ∷ es) → (P e ⊎ Q (x .0) e) ⊎ One-of (λ y. Q y e) es
+    from : (e : ℕ) → P e ⊎ One-of (λ y. Q y e) (x ∷ es) → (P e ⊎ Q x e) ⊎ One-of (λ y. Q y e) es
     from e (inl p) = inl (inl p)
     from e (inr (inl q)) = inl (inr q)
     from e (inr (inr o)) = inr o
@@ -107,7 +107,7 @@ picks-words i k t {Q} m ahead r w (x ∷ es) h {P} b =
 -- The choice among the words of a table is the longest.
 pub picks-table : (i k : ℕ) (t : String → Bool) {Q : String → ℕ → Type 0} (m : Bytes → Match)
     → ((x : String) (e : ℕ) → Q x e → i ≤ e) → ((x : String) → t x ≡ true → Right (Q x) (m (cps x)))
-    → (es : List Entry) → all-words t es ≡ true → Picks (λ e. One-of (λ x. Q x e) es) i k (try-words i k m 0 es (none-at i))
+    → (es : List String) → all-words t es ≡ true → Picks (λ e. One-of (λ x. Q x e) es) i k (try-words i k m 0 es (none-at i))
 picks-table i k t {Q} m ahead r es h = picks-map to (λ e o. inr o) (picks-words i k t m ahead r 0 es h picks-none)
   where
     to : (e : ℕ) → ⊥ ⊎ One-of (λ x. Q x e) es → One-of (λ x. Q x e) es

@@ -1,5 +1,5 @@
 -- Two laws that numbers need. A byte that is one of two letters, tested as the source does, is one of the list that the pattern has.
--- And where behind the lesser of two ends always stands a character of some class, something that begins with no such character follows
+-- And where behind the lesser of two ends always stands a character of at-least-one class, something that begins with no such character follows
 -- the greatest end alone: a run is so, and what ends with a run. Rests on the shapes.
 use Prim.Native.Nat.{ℕ, _+_, _<_}
 use mathlib.Core.Path.{_≡_, refl, sym, ap₂, subst, _∙_, fun-ext}
@@ -12,7 +12,7 @@ use borrow.Author.Tests.{eqb-true, eq-eqb, not-true}
 use Rattle.definition.specs.Basics.{Bytes, mem-cp, if_then_else_}
 use Rattle.definition.specs.Text.{byte-has}
 use Rattle.definition.specs.Matchers.{_then_, max-list, only}
-use Rattle.definition.specs.Regex.{Re, chr, some}
+use Rattle.definition.specs.Regex.{Re, chr, at-least-one}
 use Rattle.definition.specs.Samples.{nullable}
 use Rattle.definition.specs.declared.Match.{Match}
 use Rattle.lemmas.proofs.Cases.{by-order}
@@ -115,7 +115,7 @@ parted-then {Q = Q} R one h j k (a, x, y) (b, u, v) = h b j k (subst (λ (n : �
 
 module _ (s : Bytes) (p : ℕ → Bool) where
   -- A run goes on by its own characters.
-  pub run-continues : (q : ℕ → Bool) → ((c : ℕ) → q c ≡ true → p c ≡ true) → (i : ℕ) → Continues s p (At s (some (chr q)) i)
+  pub run-continues : (q : ℕ → Bool) → ((c : ℕ) → q c ≡ true → p c ≡ true) → (i : ℕ) → Continues s p (At s (at-least-one (chr q)) i)
   run-continues q f i j k (a, x, y) (b, u, v) h = let r = run-more s (step a x y) (step b u v) h in (r .0, step-map f (r .1))
 
   -- So does what ends with something that goes on so.

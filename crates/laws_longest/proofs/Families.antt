@@ -10,7 +10,7 @@ use lib.Dec.{eqb}
 use Rattle.definition.specs.Basics.{Bytes, codes, mem-cp}
 use Rattle.definition.specs.Text.{char-has, star}
 use Rattle.definition.specs.Chars.{is-op-char, is-symbolchar, is-ident-start, is-constructor-start, is-ident-char}
-use Rattle.definition.specs.Tables.{Entry, cps}
+use Rattle.definition.specs.Tables.{cps}
 use Rattle.definition.specs.Matchers.{_then_, only, one, match-lit, match-ident, match-constructor}
 use Rattle.definition.specs.Select.{none-at, try-words, one-of-then-symbols}
 use Rattle.definition.specs.Regex.{Re, seq, word}
@@ -80,19 +80,19 @@ module _ (s : Bytes) where
 
   module _ (i : ℕ) where
     -- A part that one of the words permits, one by one, the table's expression permits.
-    word-of : (es : List Entry) (e : ℕ) → One-of (λ x. At s (text x) i e) es → At s (one-word es) i e
+    word-of : (es : List String) (e : ℕ) → One-of (λ x. At s (text x) i e) es → At s (one-word es) i e
     word-of [] e n = absurd n
     word-of (x ∷ es) e (inl h) = inl h
     word-of (x ∷ es) e (inr h) = inr (word-of es e h)
 
     -- It permits no other part.
-    of-word : (es : List Entry) (e : ℕ) → At s (one-word es) i e → One-of (λ x. At s (text x) i e) es
+    of-word : (es : List String) (e : ℕ) → At s (one-word es) i e → One-of (λ x. At s (text x) i e) es
     of-word [] e h = false≢true (h .passes)
     of-word (x ∷ es) e (inl h) = inl h
     of-word (x ∷ es) e (inr h) = inr (of-word es e h)
 
     -- The choice among the words of a table is the longest that its expression permits.
-    pub table-picks : (k : ℕ) (es : List Entry) → all-words spelled es ≡ true
+    pub table-picks : (k : ℕ) (es : List String) → all-words spelled es ≡ true
         → Picks (At s (one-word es) i) i k (try-words i k (λ w. match-lit s w i) 0 es (none-at i))
     table-picks k es h =
         picks-map (word-of es) (of-word es)
@@ -100,19 +100,19 @@ module _ (s : Bytes) where
 
     module _ (q : Re) where
       -- The same holds of one of the words with another expression behind it.
-      then-of : (es : List Entry) (e : ℕ) → One-of (λ x. At s (seq (text x) q) i e) es → At s (seq (one-word es) q) i e
+      then-of : (es : List String) (e : ℕ) → One-of (λ x. At s (seq (text x) q) i e) es → At s (seq (one-word es) q) i e
       then-of [] e n = absurd n
       then-of (x ∷ es) e (inl (j, a, b)) = (j, inl a, b)
       then-of (x ∷ es) e (inr h) = let t = then-of es e h in (t .0, inr (t .1), t .2)
 
       -- It permits no other part.
-      of-then : (es : List Entry) (e : ℕ) → At s (seq (one-word es) q) i e → One-of (λ x. At s (seq (text x) q) i e) es
+      of-then : (es : List String) (e : ℕ) → At s (seq (one-word es) q) i e → One-of (λ x. At s (seq (text x) q) i e) es
       of-then [] e (j, a, b) = false≢true (a .passes)
       of-then (x ∷ es) e (j, inl a, b) = inl (j, a, b)
       of-then (x ∷ es) e (j, inr a, b) = inr (of-then es e (j, a, b))
 
       -- The choice among the words of a table, each with a matcher behind it, is the longest that the expressions permit.
-      pub table-then : (k : ℕ) (f : ℕ → Match) → ((j : ℕ) → Right (At s q j) (f j)) → (es : List Entry) → all-words spelled es ≡ true
+      pub table-then : (k : ℕ) (f : ℕ → Match) → ((j : ℕ) → Right (At s q j) (f j)) → (es : List String) → all-words spelled es ≡ true
           → Picks (At s (seq (one-word es) q) i) i k (try-words i k (λ w. match-lit s w i then f) 0 es (none-at i))
       table-then k f g es h =
           picks-map (then-of es) (of-then es)

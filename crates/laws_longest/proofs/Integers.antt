@@ -15,7 +15,7 @@ use Rattle.definition.specs.Text.{byte-has}
 use Rattle.definition.specs.Chars.{is-digit, is-hex}
 use Rattle.definition.specs.Tables.{cps}
 use Rattle.definition.specs.Matchers.{_then_, max-list, plus, match-integer, match-xinteger, any-integer-ends, match-int-suffix, match-int-usuffix}
-use Rattle.definition.specs.Regex.{Re, chr, seq, alt, some, word}
+use Rattle.definition.specs.Regex.{Re, chr, seq, alt, at-least-one, word}
 use Rattle.definition.specs.Patterns.{text, one-of, integer, xinteger, any-integer, suffixed, usuffixed}
 use Rattle.definition.specs.Samples.{nullable}
 use Rattle.definition.specs.declared.Match.{Match}
@@ -31,9 +31,9 @@ use Rattle.laws_longest.proofs.Continues.{two, two-listed, none-listed,
 
 -- ---- integers
 
--- One of some letters for the base, and digits.
+-- One of at-least-one letters for the base, and digits.
 abbrev pub based : String → (ℕ → Bool) → Re
-based letters p = seq (one-of letters) (some (chr p))
+based letters p = seq (one-of letters) (at-least-one (chr p))
 
 -- What stands behind the 0 of a binary integer.
 abbrev pub binary : Re
@@ -97,9 +97,9 @@ module _ (s : Bytes) where
       (right-else _ (l (ch "b") (ch "B"))
       (right-two s (ch "b") (ch "B") (omega arith) (omega arith) (i + 1) (i + 2) e (bits (i + 2)))))
     where
-      bits : (j : ℕ) → Right (At s (some (one-of "01")) j) (plus (two (ch "0") (ch "1")) s j)
+      bits : (j : ℕ) → Right (At s (at-least-one (one-of "01")) j) (plus (two (ch "0") (ch "1")) s j)
       bits j =
-          subst (λ (p : ℕ → Bool). Right (At s (some (chr p)) j) (plus (two (ch "0") (ch "1")) s j)) (two-listed (ch "0") (ch "1"))
+          subst (λ (p : ℕ → Bool). Right (At s (at-least-one (chr p)) j) (plus (two (ch "0") (ch "1")) s j)) (two-listed (ch "0") (ch "1"))
           (plus-right s (two (ch "0") (ch "1")) j)
 
   -- The later of the two is the longest integer of either kind.
@@ -115,7 +115,7 @@ module _ (s : Bytes) where
 
   -- The same holds of digits behind a letter.
   based-continues : (letters : String) (q : ℕ → Bool) → ((c : ℕ) → q c ≡ true → is-hex c ≡ true) → (i : ℕ) → Continues s is-hex (At s (based letters q) i)
-  based-continues letters q f i = then-continues s is-hex (single-parted (At s (some (chr q))) (step-single s)) (run-continues s is-hex q f)
+  based-continues letters q f i = then-continues s is-hex (single-parted (At s (at-least-one (chr q))) (step-single s)) (run-continues s is-hex q f)
 
   -- So it holds of an integer with a letter.
   xinteger-continues : (i : ℕ) → Continues s is-hex (At s xinteger i)

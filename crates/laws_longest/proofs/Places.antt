@@ -16,11 +16,11 @@ use Rattle.definition.specs.Utf8.{sequence-at}
 use Rattle.definition.specs.Text.{char-has}
 use Rattle.definition.specs.ClassFile.{is-zs}
 use Rattle.definition.specs.Chars.{ascii-limit, count-up, ascii-table, in-table, is-digit, is-hex, is-op-char, is-symbolchar, is-ident-char, is-anywhite, is-newline-char, is-uoperator}
-use Rattle.definition.specs.Tables.{cps, early-literals, kw-op-rules, op-tokens, mixfix-rules}
+use Rattle.definition.specs.Tables.{cps, early-literals, kw-op-rules, op-tokens, mixfix-rules, words-of, kw-op-words}
 use Rattle.definition.specs.Matchers.{later, only, max-list, match-lit, any-integer-ends, match-int-suffix, match-int-usuffix, match-real, match-bad-number, plus, match-newline}
 use Rattle.definition.specs.Select.{found, one-of-then-symbols, lit-then-symbols, places}
-use Rattle.definition.specs.Regex.{Re, chr, seq, alt, some}
-use Rattle.definition.specs.Patterns.{text, one-of, nl, identifier, constructor, symbols, any-char, integer, xinteger, any-integer, suffixed, usuffixed, floatp, ieee64, xieee64, plain, patterns, pattern}
+use Rattle.definition.specs.Regex.{Re, chr, seq, alt, at-least-one}
+use Rattle.definition.specs.Patterns.{text, one-of, nl, identifier, constructor, symbols, any-char, integer, xinteger, any-integer, suffixed, usuffixed, floatp, ieee64, xieee64, backtick-free, patterns, pattern}
 use Rattle.definition.specs.Samples.{nullable}
 use Rattle.definition.specs.declared.Choice.{Choice}
 use Rattle.definition.specs.declared.Sequence.the-variants.{Char}
@@ -49,7 +49,7 @@ suffix-like (c ∷ cs) = not (is-hex c) && all-plain (c ∷ cs)
 
 -- A number that goes on as an identifier: the pattern of place 27.
 abbrev pub bad-number : Bytes → Re
-bad-number f = seq (alt integer (alt xinteger (alt ieee64 xieee64))) (some (chr (is-ident-char f)))
+bad-number f = seq (alt integer (alt xinteger (alt ieee64 xieee64))) (at-least-one (chr (is-ident-char f)))
 
 -- What a matcher found reaches k.
 abbrev pub Reaches : ℕ → Match → Type 0
@@ -178,9 +178,9 @@ module _ (s f : Bytes) (i : ℕ) where
   op-is x h c t = ap is-op-char (eqb-true c (ch x) t) ∙ h
 
   -- The test of place 7 changes nothing where no fast path is taken.
-  white-sound : Slow s i → Right (At s (some (chr (is-anywhite f))) i) (only (char-has (leb ascii-limit) s i) (plus (is-anywhite f) s i))
+  white-sound : Slow s i → Right (At s (at-least-one (chr (is-anywhite f))) i) (only (char-has (leb ascii-limit) s i) (plus (is-anywhite f) s i))
   white-sound h =
-      guard-at s (some (chr (is-anywhite f))) i refl (λ c w q t. white-beyond f c (sym (has-read white-fast s i c w q) ∙ h .no-white) t)
+      guard-at s (at-least-one (chr (is-anywhite f))) i refl (λ c w q t. white-beyond f c (sym (has-read white-fast s i c w q) ∙ h .no-white) t)
       (plus-right s (is-anywhite f) i)
 
   -- That of place 8 doesn't either.
@@ -240,18 +240,18 @@ module _ (s f : Bytes) (i : ℕ) where
     pub all-places : Numbered Place 1 (places s f i)
     unfolding places pattern patterns early-literals kw-op-rules op-tokens mixfix-rules is-op-char in-table ascii-table count-up mem-cp is-hex is-digit
     all-places =
-        right-one (table-picks s i 1 early-literals refl)
+        right-one (table-picks s i 1 (words-of early-literals) refl)
         ⨟ right-one (tested (is "`") (seq (text "```") (identifier f)) refl (λ c t. t) (word-then s "```" i refl (ident-right s f)))
         ⨟ right-one (tested (is "#") (seq (text "#lang-") (identifier f)) refl (λ c t. t) (word-then s "#lang-" i refl (ident-right s f)))
         ⨟ right-one (word-place "_" "__SOURCE_FILE__" refl refl (λ c t. t))
         ⨟ right-one (word-place "_" "__LINE__" refl refl (λ c t. t))
         ⨟ right-one (word-place "_" "__FILELINE__" refl refl (λ c t. t))
-        ⨟ special (inl refl) (λ h. picks-sound Has chosen i (simple (some (chr (is-anywhite f))) (white-sound h)))
+        ⨟ special (inl refl) (λ h. picks-sound Has chosen i (simple (at-least-one (chr (is-anywhite f))) (white-sound h)))
         ⨟ special (inr (inl refl)) (λ h. picks-sound Has chosen i (simple nl (newline-sound h)))
         ⨟ right-one (tested (is "'") (seq (text "'") (seq any-char (text "'"))) refl (λ c t. t) (char-lit-right s i))
         ⨟ right-one (tested (is "'") (seq (text "'") (seq any-char (text "'B"))) refl (λ c t. t) (byte-lit-right s i))
         ⨟ right-one (simple (text "`") (letter-right s (ch "`") i (omega arith)))
-        ⨟ right-one (table-then s i (some (chr is-op-char)) 12 (plus is-op-char s) (plus-right s is-op-char) kw-op-rules refl)
+        ⨟ right-one (table-then s i (at-least-one (chr is-op-char)) 12 (plus is-op-char s) (plus-right s is-op-char) kw-op-words refl)
         ⨟ right-one (word-place ";" ";;" refl refl (λ c t. t))
         ⨟ right-one (simple (identifier f) (ident-right s f i))
         ⨟ right-one (simple (constructor f) (constructor-right s f i))
@@ -271,11 +271,11 @@ module _ (s f : Bytes) (i : ℕ) where
         ⨟ right-one (word-place "/" "// IN F*:" refl refl (λ c t. t))
         ⨟ right-one (word-place "/" "//" refl refl (λ c t. t))
         ⨟ right-one (simple (text "\"") (letter-right s (ch "\"") i (omega arith)))
-        ⨟ right-one (tested (is "`") (seq (text "``") (seq (some (alt plain (seq (text "`") plain))) (text "``"))) refl (λ c t. t) (backtick-right s i))
+        ⨟ right-one (tested (is "`") (seq (text "``") (seq (at-least-one (alt backtick-free (seq (text "`") backtick-free))) (text "``"))) refl (λ c t. t) (backtick-right s i))
         ⨟ right-one (word-place "<" "<|" refl refl (λ c t. t))
         ⨟ right-one (word-place "|" "|>" refl refl (λ c t. t))
         ⨟ right-one (word-place "." ".." refl refl (λ c t. t))
-        ⨟ right-one (table-picks s i 36 op-tokens refl)
+        ⨟ right-one (table-picks s i 36 (words-of op-tokens) refl)
         ⨟ right-one (tested is-op-char (text "<") refl (op-is "<" refl) (letter-right s (ch "<") i (omega arith)))
         ⨟ right-one (tested is-op-char (seq (text ">") symbols) refl (op-is ">" refl) (letter-then s (ch ">") i (omega arith) (star-right s is-symbolchar (i + 1))))
         ⨟ right-one (tested is-op-char (seq (text "**") symbols) refl (op-is "*" refl) (word-symbols "**" refl))
@@ -289,5 +289,5 @@ module _ (s f : Bytes) (i : ℕ) where
         ⨟ right-one (operator-place "+-" refl)
         ⨟ right-one (operator-place "*/%" refl)
         ⨟ right-one (tested (leb ascii-limit) (chr (is-uoperator f)) refl (operator-beyond f) (one-right s (is-uoperator f) i))
-        ⨟ right-one (table-picks s i 50 mixfix-rules refl)
+        ⨟ right-one (table-picks s i 50 (words-of mixfix-rules) refl)
         ⨟ no-more

@@ -18,7 +18,7 @@ use Rattle.definition.specs.Utf8.{encode, encode-all, Scalars, sequence-at}
 use Rattle.definition.specs.Text.{with-char, char-has, byte-has, byte-is, star}
 use Rattle.definition.specs.Tables.{cps}
 use Rattle.definition.specs.Matchers.{only, one, match-lit, plus}
-use Rattle.definition.specs.Regex.{chr, some, word}
+use Rattle.definition.specs.Regex.{chr, at-least-one, word}
 use Rattle.definition.specs.Patterns.{text}
 use Rattle.definition.specs.declared.Sequence.{Sequence}
 use Rattle.definition.specs.declared.Sequence.the-variants.{Char, Bad, End}
@@ -43,8 +43,8 @@ plain-scalars [] p = tt
 plain-scalars (c ∷ cs) p =
     let h = both (plain c) (all-plain cs) p in (
       either (ltb c 0x80) (leb 0x800 c && ltb c 0xD800)
-          (λ t. let l = ltb-true c 0x80 t in record { small = omega arith; plain = inl (omega arith) })
-          (λ t. let l = ltb-true c 0xD800 (both (leb 0x800 c) (ltb c 0xD800) t .1) in record { small = omega arith; plain = inl l })
+          (λ t. let l = ltb-true c 0x80 t in record { small = omega arith; no-surrogate = inl (omega arith) })
+          (λ t. let l = ltb-true c 0xD800 (both (leb 0x800 c) (ltb c 0xD800) t .1) in record { small = omega arith; no-surrogate = inl l })
           (h .0),
       plain-scalars cs (h .1),
     )
@@ -156,7 +156,7 @@ module _ (s : Bytes) where
 
   -- ---- words
 
-  -- Where some bytes stand they are found.
+  -- Where at-least-one bytes stand they are found.
   lit-finds : (l : Bytes) (i : ℕ) (rest : Bytes) → drop i s ≡ l ++ rest → match-lit s l i ≡ To (i + length l)
   unfolding match-lit
   lit-finds [] i rest h = ap To (sym (add-zero i))
@@ -230,7 +230,7 @@ module _ (s : Bytes) where
           omega (arith, reach h)
 
   -- `plus` ends the longest run of one or more.
-  pub plus-right : (p : ℕ → Bool) (i : ℕ) → Right (At s (some (chr p)) i) (plus p s i)
+  pub plus-right : (p : ℕ → Bool) (i : ℕ) → Right (At s (at-least-one (chr p)) i) (plus p s i)
   unfolding plus
   plus-right p i = right-then step-single (one-right p i) (λ j h. star-right p j)
 

@@ -11,7 +11,7 @@ use lib.Dec.{ltb, leb, eqb}
 use Rattle.definition.specs.Basics.{Bytes, ch, codes, mem-cp}
 use Rattle.definition.specs.Text.{char-has}
 use Rattle.definition.specs.Chars.{ascii-limit, is-digit, is-anywhite, is-op-char, is-symbolchar, is-uoperator}
-use Rattle.definition.specs.Tables.{Entry, cps, early-literals, kw-op-rules, op-tokens, mixfix-rules}
+use Rattle.definition.specs.Tables.{cps, early-literals, kw-op-rules, op-tokens, mixfix-rules, words-of, kw-op-words}
 use Rattle.definition.specs.Matchers.{_then_, only, match-lit, plus, match-int-suffix, match-int-usuffix}
 use Rattle.definition.specs.Select.{none-at, keep, found, try-words, try-all, one-of-then-symbols, lit-then-symbols, places, select}
 use Rattle.definition.specs.declared.Choice.{Choice}
@@ -75,12 +75,12 @@ module _ (s : Bytes) (i : ℕ) where
 
   -- the best of all words of a table that begin with a character that passes a test
   words-fit : (k : ℕ) (p : ℕ → Bool) (m : Bytes → Match) → ((x : String) → begins-with p (codes x) ≡ true → Ends (Chosen s i k) (m (cps x)))
-      → (w : ℕ) (es : List Entry) → table-begins p es ≡ true → {best : Choice} → Fits s i best → Fits s i (try-words i k m w es best)
+      → (w : ℕ) (es : List String) → table-begins p es ≡ true → {best : Choice} → Fits s i best → Fits s i (try-words i k m w es best)
   unfolding try-words
   words-fit k p m h w [] t f = f
   words-fit k p m h w (e ∷ es) t f =
-      let q = both (begins-with p (codes (e .0))) (table-begins p es) t in
-      words-fit k p m h (suc w) es (q .1) (keep-fits f (found-fits k w _ (h (e .0) (q .0))))
+      let q = both (begins-with p (codes e)) (table-begins p es) t in
+      words-fit k p m h (suc w) es (q .1) (keep-fits f (found-fits k w _ (h e (q .0))))
 
   -- the best of all places
   all-fit : {cs : List Choice} → Each (Fits s i) cs → {best : Choice} → Fits s i best → Fits s i (try-all cs best)
@@ -91,7 +91,7 @@ module _ (s : Bytes) (i : ℕ) where
   -- ---- the places
 
   -- a table of words
-  table-fits : (k : ℕ) → eqb k kw-op-place ≡ false → (es : List Entry) → table-begins (λ c. true) es ≡ true
+  table-fits : (k : ℕ) → eqb k kw-op-place ≡ false → (es : List String) → table-begins (λ c. true) es ≡ true
       → Fits s i (try-words i k (λ w. match-lit s w i) 0 es (none-at i))
   table-fits k q es t =
       words-fit k (λ c. true) (λ w. match-lit s w i)
@@ -99,13 +99,13 @@ module _ (s : Bytes) (i : ℕ) where
       0 es t none-fits
 
   -- the keyword operators
-  kw-ops-fit : Fits s i (try-words i kw-op-place (λ w. match-lit s w i then plus is-op-char s) 0 kw-op-rules (none-at i))
+  kw-ops-fit : Fits s i (try-words i kw-op-place (λ w. match-lit s w i then plus is-op-char s) 0 kw-op-words (none-at i))
   unfolding kw-op-rules
   kw-ops-fit =
       words-fit kw-op-place (λ c. not (eqb c (ch "/"))) (λ w. match-lit s w i then plus is-op-char s)
       (λ x b. ends-then (word-begins s _ x b i) (λ j h. ends-map
       (λ e o. record { onward = onward-onward (h .onward) o; no-slash = λ _. h .begins }) (plus-ends s is-op-char j)))
-      0 kw-op-rules refl none-fits
+      0 kw-op-words refl none-fits
 
   -- a place with a test in front
   when-fits : (k : ℕ) {m : Match} (t : Bool) → eqb k kw-op-place ≡ false → (t ≡ true → Ends (Onward s i) m) → Fits s i (found i k 0 (only t m))
@@ -148,7 +148,7 @@ module _ (s : Bytes) (i : ℕ) where
         let symbols : (k : ℕ) (chars : String) → eqb k kw-op-place ≡ false → Fits s i (found i k 0 (only op-char (one-of-then-symbols s i chars))) =
         λ k chars q. when-fits k op-char q (λ _. one-of-ends chars)
         in
-        table-fits 1 refl early-literals refl
+        table-fits 1 refl (words-of early-literals) refl
         ⨾ when-fits 2 (is "`") refl (λ _. ends-then (word-onward s "```" refl i) (λ j o. behind s (o .walk) (ident-ends s f j)))
         ⨾ when-fits 3 (is "#") refl (λ _. ends-then (word-onward s "#lang-" refl i) (λ j o. behind s (o .walk) (ident-ends s f j)))
         ⨾ word-fits 4 (is "_") "__SOURCE_FILE__" refl refl
@@ -183,7 +183,7 @@ module _ (s : Bytes) (i : ℕ) where
         ⨾ word-fits 33 (is "<") "<|" refl refl
         ⨾ word-fits 34 (is "|") "|>" refl refl
         ⨾ word-fits 35 (is ".") ".." refl refl
-        ⨾ table-fits 36 refl op-tokens refl
+        ⨾ table-fits 36 refl (words-of op-tokens) refl
         ⨾ when-fits 37 op-char refl (λ _. ends-only (is "<") (λ t. ends-to (is-onward "<" (omega arith) t)))
         ⨾ when-fits 38 op-char refl (λ _. ends-only (is ">") (λ t. ends-to (onward-walk (is-onward ">" (omega arith) t) (star-walks is-symbolchar s (i + 1)))))
         ⨾ when-fits 39 op-char refl (λ _. lit-symbols-ends "**" refl)
@@ -197,7 +197,7 @@ module _ (s : Bytes) (i : ℕ) where
         ⨾ symbols 47 "+-" refl
         ⨾ symbols 48 "*/%" refl
         ⨾ when-fits 49 beyond refl (λ _. one-ends s (is-uoperator f) i)
-        ⨾ table-fits 50 refl mixfix-rules refl
+        ⨾ table-fits 50 refl (words-of mixfix-rules) refl
         ⨾ none-left
 
     -- the choice

@@ -6,11 +6,4 @@ pub mod Matches
 pub mod Words
 pub mod Choices
 pub mod Scans
-pub mod Moves
-pub mod Comments
-pub mod Literals
 pub mod Cuts
-pub mod Rules
-pub mod Tokens
-pub mod Items
-pub mod Fuel

@@ -8,17 +8,18 @@ use native.Mathlib.Omega.{arith}
 use lib.ListN.{length}
 use Rattle.definition.specs.Basics.{Bytes, Turn, loop, fuel, ch}
 use Rattle.definition.specs.Utf8.{sequence-at}
-use Rattle.definition.specs.Text.{byte-is, star-turn, star}
+use Rattle.definition.specs.Text.{with-char, byte-is, star-turn, star, after}
 use Rattle.definition.specs.Matchers.{only, backtick-turn, match-backtick-ident, no-comment-turn, no-comment}
 use Rattle.definition.specs.Numbers.{show-turn, show}
-use Rattle.definition.specs.declared.Sequence.the-variants.{Char}
+use Rattle.definition.specs.declared.Sequence.{Sequence}
+use Rattle.definition.specs.declared.Sequence.the-variants.{Char, Bad, End}
 use Rattle.definition.specs.declared.Match.{Match}
 use Rattle.definition.specs.declared.Match.the-variants.{Nothing}
 use Rattle.lemmas.proofs.Loops.{says, Leads, leads-map, Falls, Any, loop-same, loop-unroll, loop-unroll-by}
-use Rattle.lemmas.proofs.Cases.{by-test, by-lt, by-le}
+use Rattle.lemmas.proofs.Cases.{by-test, by-lt, by-le, both}
 use Rattle.utf8.proofs.Star.{star-unroll}
-use Rattle.laws_progress.proofs.Walks.{rest, Onward, onward-walk, char-onward, star-walks}
-use Rattle.laws_progress.proofs.Matches.{backtick-leads}
+use Rattle.laws_progress.proofs.Walks.{rest, Walk, here, Onward, onward-walk, char-onward, star-walks, Clean, clean-char}
+use Rattle.laws_progress.proofs.Matches.{small-is, byte-is-onward, byte-more, backtick-leads}
 
 -- ---- `star`
 
@@ -28,6 +29,30 @@ star-onward f s i c w q p = subst (Onward s i) (sym (star-unroll f s i ∙ turn)
   where
     turn : says (star-turn f s i) (star f s) ≡ star f s (i + w)
     turn = simp (q, p)
+
+-- ---- one character, and two bytes
+
+module _ (s : Bytes) where
+  -- the offset after the character at i is i or a walk from it
+  pub after-walks : (i : ℕ) → Walk s i (after s i)
+  unfolding after
+  after-walks i = go (sequence-at s i) refl
+    where
+      go : (q : Sequence) → sequence-at s i ≡ q → Walk s i (with-char q i (λ c j. j) i)
+      go (Char c w) q = char-onward q .walk
+      go Bad q = here refl
+      go End q = here refl
+
+  -- before the end of a clean text it is past i
+  pub after-onward : (i : ℕ) → Clean s i → i < length s → Onward s i (after s i)
+  unfolding after
+  after-onward i c h = let p = clean-char c h in subst (λ q. Onward s i (with-char q i (λ c j. j) i)) (sym (p .read)) (char-onward (p .read))
+
+  -- two bytes of ASCII
+  pub two-onward : (x y i : ℕ) → x < 0x80 → y < 0x80 → byte-is x s i && byte-is y s (i + 1) ≡ true → Onward s i (i + 2)
+  two-onward x y i h k t =
+      let p = both (byte-is x s i) (byte-is y s (i + 1)) t in
+      byte-more s (small-is y k) i 1 2 refl (byte-is-onward s x i h (p .0)) (p .1)
 
 -- ---- names in backticks
 

@@ -12,7 +12,7 @@ use borrow.Author.Tests.{ltb-true, leb-true, eqb-true, lt-ltb, le-ltb}
 use Rattle.definition.specs.Basics.{Bytes, codes}
 use Rattle.definition.specs.Utf8.{encode, encode-all, tail-bits, three, three-bytes, sequence, sequence-at}
 use Rattle.definition.specs.Text.{byte-is}
-use Rattle.definition.specs.Tables.{Entry, cps}
+use Rattle.definition.specs.Tables.{cps}
 use Rattle.definition.specs.Matchers.{match-lit}
 use Rattle.definition.specs.declared.Sequence.the-variants.{Char}
 use Rattle.lemmas.proofs.Cases.{by-test, both, either}
@@ -37,9 +37,9 @@ begins-with p [] = false
 begins-with p (c ∷ cs) = p c && (plain c && all-plain cs)
 
 -- all words of a table begin so
-abbrev pub table-begins : (ℕ → Bool) → List Entry → Bool
+abbrev pub table-begins : (ℕ → Bool) → List String → Bool
 table-begins p [] = true
-table-begins p (e ∷ es) = begins-with p (codes (e .0)) && table-begins p es
+table-begins p (e ∷ es) = begins-with p (codes e) && table-begins p es
 
 -- six bits are read as they are written
 bits-are : (y : ℕ) → y < 64 → tail-bits (0x80 + y) ≡ y

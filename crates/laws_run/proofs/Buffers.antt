@@ -14,8 +14,7 @@ use Rattle.definition.specs.declared.Extra.{Extra}
 use Rattle.definition.specs.declared.Extra.the-variants.{NoExtra, CharLit, Blob, LexError, Comment}
 use Rattle.lemmas.specs.Over.{over}
 use Rattle.lemmas.proofs.Each.{Each, none-left, _⨾_}
-use Rattle.laws_run.specs.Items.{Told, without-6, told}
-use Rattle.laws_run.specs.Written.{records-of, payloads-of}
+use Rattle.definition.specs.Items.{Told, without-6, told, records-of, payloads-of}
 use Rattle.laws_run.specs.Split.{payload-size, item-in, items-in}
 
 -- ---- sizes

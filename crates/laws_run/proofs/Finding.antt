@@ -14,22 +14,24 @@ use Rattle.definition.specs.declared.State.{State}
 use Rattle.lemmas.specs.Over.{over}
 use Rattle.lemmas.proofs.Cases.{by-outcome}
 use Rattle.lemmas.proofs.Each.{Each, none-left, _⨾_}
-use Rattle.laws_progress.proofs.Moves.{Opened}
+use Rattle.laws_run.specs.Left.{Opened}
 use Rattle.laws_run.specs.Budget.{budget}
-use Rattle.laws_run.proofs.Payloads.{payload-bound}
-use Rattle.laws_run.specs.Items.{Told, told, steps-of, items-of, Steps}
+use Rattle.laws_run.proofs.Forms.{Kept}
+use Rattle.laws_run.proofs.Steps.{step-kept, payload-bound}
+use Rattle.definition.specs.Items.{Told, told, steps-of, items-of, Steps}
 use Rattle.laws_run.specs.Written.{Done}
 use Rattle.laws_run.specs.Split.{items-in, written-by}
 use Rattle.laws_run.proofs.Items.{steps-of-few, steps-of-on, steps-then}
 use Rattle.laws_run.proofs.Buffers.{Measured, items-found}
-use Rattle.laws_run.proofs.Measures.{step-measured}
 use Rattle.laws_run.proofs.RunTurns.{Finished}
 
 module _ (s name f : Bytes) where
   -- every record of some steps says how long its payload is
-  steps-measured : (st : State) (ts : List Step) (b : State) → Steps s name f st ts b → Each Measured ts
-  steps-measured st [] b e = none-left
-  steps-measured st (t ∷ ts) b (m, e, rest) = subst Measured (sym e) (step-measured s name f st) ⨾ steps-measured (t .next) ts b rest
+  steps-measured : (st : State) (ts : List Step) (b : State) → Opened st → Steps s name f st ts b → Each Measured ts
+  steps-measured st [] b o e = none-left
+  steps-measured st (t ∷ ts) b o (m, e, rest) =
+      let k = subst (Kept s name st) (sym e) (step-kept s name f st o m) in
+      k .measured ⨾ steps-measured (t .next) ts b (k .gives .opened o) rest
 
   module _ (st : State) (rs : List ℕ) (ps : Bytes) (o : Outcome) (opened : Opened st) where
     -- What is found in the buffers are the items written.
@@ -38,7 +40,7 @@ module _ (s name f : Bytes) where
     items-found-again d =
         let q = d .filled in
         ap (λ (n : ℕ). items-in n (o .1) (o .2)) (d .count)
-        ∙ items-found 0 (d .ts) (o .1) _ (o .2) _ (steps-measured st (d .ts) (o .0 .state) (q .steps)) (q .records) (q .payload)
+        ∙ items-found 0 (d .ts) (o .1) _ (o .2) _ (steps-measured st (d .ts) (o .0 .state) opened (q .steps)) (q .records) (q .payload)
 
     -- They, and then the items of the state handed back, are the items of the state given.
     pub done-items : Done s name f st rs ps o → items-of s name f st ≡ written-by o ++ items-of s name f (o .0 .state)

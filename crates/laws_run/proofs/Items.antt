@@ -14,15 +14,16 @@ use Rattle.definition.specs.Token.{step}
 use Rattle.definition.specs.Run.{most-items}
 use Rattle.definition.specs.declared.State.{State}
 use Rattle.lemmas.proofs.Cases.{by-outcome, by-test}
-use Rattle.laws_progress.proofs.Moves.{awake, awake-small, left, Opened}
-use Rattle.laws_progress.proofs.Items.{step-gives}
-use Rattle.laws_run.specs.Items.{steps, steps-of, Steps}
+use Rattle.laws_run.specs.Left.{awake, left, Opened}
+use Rattle.laws_run.proofs.Forms.{awake-small}
+use Rattle.laws_run.proofs.Steps.{step-kept}
+use Rattle.definition.specs.Items.{steps, steps-of, Steps}
 
 module _ (s name f : Bytes) where
   -- before the end each step leaves less
   pub step-left : (st : State) → Opened st → (st .mode ≡ 2 → ⊥) → (Opened (step s name f st .next)) × (left s (step s name f st .next) < left s st)
   step-left st o n =
-      let g = step-gives s name f st o in
+      let g = step-kept s name f st o n .gives in
       let w : awake (st .mode) ≡ 1 = ap (λ t. elim t as (λ _. ℕ) [ true ↦ 0 | false ↦ 1 ]) (ne-eqb (st .mode) 2 n) in
       (g .opened o, omega (arith, g .less, w))
 

@@ -19,11 +19,12 @@ use Rattle.lemmas.specs.Over.{over}
 use Rattle.lemmas.proofs.Cases.{by-test}
 use Rattle.lemmas.proofs.Loops.{says}
 use Rattle.state.proofs.Soundness.{sound-is}
-use Rattle.laws_progress.proofs.Items.{run-from, run-unroll, run-is}
+use Rattle.laws_run.specs.Going.{run-from}
+use Rattle.laws_run.proofs.RunFuel.{run-unroll, run-is}
 use Rattle.laws_run.specs.Budget.{budget}
 use Rattle.laws_run.proofs.Refusals.{run-accepted, accepted-run}
-use Rattle.laws_run.specs.Items.{Told, told, items-of}
-use Rattle.laws_run.specs.Written.{records-of, payloads-of, Done}
+use Rattle.definition.specs.Items.{Told, told, items-of, records-of, payloads-of}
+use Rattle.laws_run.specs.Written.{Done}
 use Rattle.laws_run.specs.Split.{written-by, Split, no-run, then-run}
 use Rattle.laws_run.proofs.Items.{steps-of-end}
 use Rattle.laws_run.proofs.Buffers.{records-size, over-rest, record-there, payload-there}

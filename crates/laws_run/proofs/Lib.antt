@@ -1,22 +1,25 @@
--- Soundness: `Moving` is what each change of a state keeps, `TurnsSound` one turn of each reader, `Readers` each reader as a whole, `Steps` the
--- choices, the steps and every state that a run comes to; `Refusals` is what a run that isn't refused was given.
--- Demand 3: `Endings` says which items end the reading, `Demand3` is the demand over a run.
--- Payloads: `Sizes` is how long their parts are, `Spending` what each reader spends, `Payloads` the bound of a step.
+-- What every step keeps: `Moving` is what each change of a state keeps, `Paths` what reading does to a state until an item is given,
+-- `Forms` which forms an item has and what each form keeps; then the one walk: `CommentReader`, `StringReader` and `BlobReader` over the
+-- readers, `Rules` over the rules, `Steps` over turns, steps and every state that a run comes to. `Sizes` is how long the parts of
+-- payloads are. `Refusals` is what a run that isn't refused was given, `Demand3` the demand over a run, `RunFuel` that a run ends; `Fuel`
+-- lists for every loop of the definition that its fuel never runs out.
 pub mod Moving
-pub mod TurnsSound
-pub mod Readers
+pub mod Paths
+pub mod Sizes
+pub mod Buffers
+pub mod Forms
+pub mod CommentReader
+pub mod StringReader
+pub mod BlobReader
+pub mod Rules
 pub mod Steps
 pub mod Refusals
-pub mod Endings
 pub mod Demand3
-pub mod Sizes
-pub mod Spending
-pub mod Payloads
--- `Laws` is what a reader cites. It rests on `Items`, the steps of a text one by one, `Buffers`, what is written for some items, `Measures`,
--- the size of a payload by its record, `RunTurns`, the induction over a run's turns, and `Finding`, what follows from what a run has done.
+pub mod RunFuel
+pub mod Fuel
+-- `Laws` is what a reader cites. It rests on `Items`, the steps of a text one by one, `Buffers`, what is written for some items,
+-- `RunTurns`, the induction over a run's turns, and `Finding`, what follows from what a run has done.
 pub mod Items
-pub mod Buffers
-pub mod Measures
 pub mod RunTurns
 pub mod Finding
 pub mod Laws

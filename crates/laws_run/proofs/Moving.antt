@@ -1,23 +1,43 @@
 -- What each change that reading makes to a state keeps of its soundness. Rests on the laws of walks: behind a walk by whole
 -- characters a character stands, or the text's end.
 use Prim.Native.Nat.{ℕ, _+_, _≤_, _<_}
-use mathlib.Core.Path.{_≡_, refl}
-use mathlib.Core.Bool.{true}
+use mathlib.Core.Path.{_≡_, refl, sym, subst, _∙_}
+use mathlib.Core.Bool.{true, not, false≢true}
 use native.Mathlib.Omega.{arith}
-use lib.ListN.{length}
-use borrow.Author.Tests.{lt-ltb, le-ltb, eq-eqb}
+use lib.Dec.{ltb, leb}
+use lib.ListN.{length, getD}
+use borrow.Author.Tests.{lt-ltb, le-ltb, le-leb, eq-eqb, ltb-true, eqb-true, not-true}
 use Rattle.definition.specs.Basics.{Bytes}
+use Rattle.definition.specs.Text.{first-bad, star}
 use Rattle.definition.specs.State.{at-character, advance, new-line, one-more-comment, ended, open-comment, deeper, close-comment}
-use Rattle.definition.specs.Position.{cur-pos}
+use Rattle.definition.specs.Position.{is-continuation, cur-pos}
 use Rattle.definition.specs.declared.State.{State}
-use Rattle.lemmas.proofs.Cases.{by-lt}
+use Rattle.lemmas.proofs.Cases.{by-lt, by-if, both-true}
 use Rattle.utf8.proofs.Character.{char-read}
 use Rattle.utf8.proofs.Boundaries.{char-starts}
 use Rattle.state.specs.Sound.{Sound, Stands}
 use Rattle.position.proofs.Counting.{column-small}
 use Rattle.laws_progress.proofs.Characters.{char-at}
-use Rattle.laws_progress.proofs.Walks.{Walk, here, on, Onward, walk-forward, Clean, clean-walk}
-use Rattle.laws_progress.proofs.Items.{first-bad-clean, at-character-clean}
+use Rattle.laws_progress.proofs.Walks.{Walk, here, on, Onward, walk-to, walk-within, walk-forward, star-walks, Clean, clean-walk}
+
+-- the text has whole characters only where no offset is bad
+pub first-bad-clean : (s : Bytes) → length s ≤ first-bad s → Clean s 0
+unfolding first-bad
+first-bad-clean s h =
+    let u = star-walks (λ c. true) s 0 in
+    let q : star (λ c. true) s 0 ≡ length s = omega (arith, walk-within u (omega arith)) in
+    subst (Walk s 0) q u
+
+-- in a clean text an offset that is at a character, or at the end, is one
+pub at-character-clean : (s : Bytes) (i : ℕ) → Clean s 0 → at-character s i ≡ true → Clean s i
+unfolding at-character is-continuation
+at-character-clean s i c = by-if (λ t. t ≡ true → Clean s i) (ltb i (length s)) inside (λ _ t. here (eqb-true i (length s) t))
+  where
+    inside : ltb i (length s) ≡ true → not (is-continuation (getD s i 0)) ≡ true → Clean s i
+    inside h t = clean-walk (walk-to i c (omega arith) (ltb-true i (length s) h) λ x.
+        false≢true
+        (sym (not-true (is-continuation (getD s i 0)) t)
+        ∙ both-true (leb 0x80 (getD s i 0)) (leb (getD s i 0) 0xBF) (le-leb _ _ (x .least)) (le-leb (getD s i 0) 0xBF (omega (arith, x .most))))) c
 
 module _ {s : Bytes} where
   -- where whole characters begin, one of them stands or the text ends
@@ -66,18 +86,17 @@ module _ {s : Bytes} where
     walk-stands {j} u = advance-stands j (clean-walk u (stands-clean h)) (walk-forward u)
 
     -- a line more, for a byte or more
-    pub new-line-stands : {j : ℕ} → Onward s (st .offset) j → Stands s (new-line (advance st j))
-    new-line-stands {j} o =
+    pub new-line-stands : (j : ℕ) → Clean s j → st .offset < j → Stands s (new-line (advance st j))
+    new-line-stands j c l =
         let m = h .sound in
-        let c = clean-walk (o .walk) (stands-clean h) in
         stands-by h
         record {
           offset = clean-character c;
           bol = clean-character c;
           order = omega arith;
-          line = omega (arith, m .line, o .past);
+          line = omega (arith, m .line);
           column = omega arith;
-          comments = omega (arith, m .comments, o .past);
+          comments = omega (arith, m .comments);
           mode = m .mode;
           opened = m .opened;
           level = m .level;
@@ -108,9 +127,9 @@ module _ {s : Bytes} where
 
     module _ (in-comment : st .mode ≡ 1) where
       -- a level more, for two bytes
-      pub deeper-stands : Onward s (st .offset) (st .offset + 2) → Stands s (deeper (advance st (st .offset + 2)))
-      deeper-stands o =
-          let m = walk-stands (o .walk) .sound in
+      pub deeper-stands : Clean s (st .offset + 2) → Stands s (deeper (advance st (st .offset + 2)))
+      deeper-stands c =
+          let m = advance-stands (st .offset + 2) c (omega arith) .sound in
           stands-by h
           record {
             offset = m .offset;

@@ -17,12 +17,13 @@ use Rattle.lemmas.proofs.Over.{length-over}
 use Rattle.lemmas.proofs.Cases.{by-test, by-lt}
 use Rattle.lemmas.proofs.Loops.{Leads, Falls, loop-gives}
 use Rattle.state.specs.Sound.{Stands}
-use Rattle.laws_progress.proofs.Moves.{awake-small, left}
+use Rattle.laws_run.specs.Left.{left}
 use Rattle.laws_run.specs.Budget.{budget}
+use Rattle.laws_run.proofs.Forms.{awake-small}
 use Rattle.laws_run.proofs.Refusals.{run-accepted}
-use Rattle.laws_run.proofs.Steps.{step-stands}
-use Rattle.laws_run.proofs.Payloads.{payload-bound, budget-small}
-use Rattle.laws_run.specs.Written.{records-of, payloads-of, Filled, Stops, Done}
+use Rattle.laws_run.proofs.Steps.{step-stands, payload-bound, budget-small}
+use Rattle.definition.specs.Items.{records-of, payloads-of}
+use Rattle.laws_run.specs.Written.{Filled, Stops, Done}
 use Rattle.laws_run.proofs.Items.{step-left, steps-snoc}
 use Rattle.lemmas.proofs.Tails.{write-more}
 use Rattle.laws_run.proofs.Buffers.{records-size, records-snoc, payloads-snoc}

@@ -2,49 +2,57 @@
 -- comments. Rests on the laws of decimal numbers (crate `number_value`).
 use Prim.Native.Nat.{ℕ, zero, suc, _+_, _-_, _*_, _/_, _%_, _≤_, _<_}
 use mathlib.Core.Path.{_≡_, refl, ap, subst}
-use mathlib.Core.Bool.{true}
+use mathlib.Core.Bool.{Bool, true, _&&_}
 use mathlib.Core.List.{List, [], _∷_, map}
 use mathlib.Core.Option.{Option, some}
 use native.Mathlib.Omega.{arith}
 use lib.Dec.{leb, eqb}
-use lib.ListN.{length, getD, drop, length-append, length-drop}
-use lib.Seq.{length-slice}
+use lib.ListN.{length, getD, drop, length-append, length-drop, length-take}
+
 use borrow.Author.Tests.{leb-true}
 use Rattle.definition.specs.Basics.{Bytes, ch, same}
 use Rattle.definition.specs.Utf8.{encode-all}
 use Rattle.definition.specs.Text.{lexeme}
-use Rattle.definition.specs.Tables.{Entry, cps, find}
+use Rattle.definition.specs.Tables.{Entry, cps, find, entry}
 use Rattle.definition.specs.Numbers.{strips, strip-left, behind, strip-right, clean-number, show}
 use Rattle.definition.specs.Trim.{onto-first, split-lines, join-lines, trim-width, maybe-trim-lines}
 use Rattle.lemmas.proofs.Cases.{by-test, by-if, by-order, both}
 use Rattle.number_value.proofs.Digits.{show-last, show-more}
-use Rattle.laws_progress.proofs.Rules.{texts-small}
 
 -- ---- parts of the text
 
--- a part that ends within the text
-pub part-size : (s : Bytes) (i j : ℕ) → j ≤ length s → length (lexeme s i j) ≤ j - i
-part-size s i j h = omega (arith, length-slice i j s h)
+-- a part is never longer than from its start to its end
+pub part-size : (s : Bytes) (i j : ℕ) → length (lexeme s i j) ≤ j - i
+part-size s i j = simp (length-drop, length-take) (omega arith)
+
+-- nor past the text's end
+pub part-within : (s : Bytes) (i j : ℕ) → length (lexeme s i j) ≤ length s - i
+part-within s i j = simp (length-drop, length-take) (omega arith)
 
 -- ---- texts of tables
 
+-- no text of a table is longer than 100 bytes
+abbrev pub texts-small : List Entry → Bool
+texts-small [] = true
+texts-small (e ∷ es) = leb (length (cps (e .text))) 100 && texts-small es
+
 -- the text of an entry that is found
-pub find-small : (id : Bytes) (table : List Entry) (y : Entry) → texts-small table ≡ true → find id table ≡ some y → length (cps (y .2)) ≤ 100
+pub find-small : (id : Bytes) (table : List Entry) (y : Entry) → texts-small table ≡ true → find id table ≡ some y → length (cps (y .text)) ≤ 100
 unfolding find
 find-small id [] y t q = absurd (let z : _≡_ {A = ℕ} 0 1 = cc in omega arith)
 find-small id (e ∷ es) y t q =
-    let b = both (leb (length (cps (e .2))) 100) (texts-small es) t in
-    by-test (λ (x : Option Entry). x ≡ some y → length (cps (y .2)) ≤ 100) (same (cps (e .0)) id)
-    (λ _ r. let z : e ≡ y = cc in subst (λ (x : Entry). length (cps (x .2)) ≤ 100) z (leb-true _ _ (b .0)))
+    let b = both (leb (length (cps (e .text))) 100) (texts-small es) t in
+    by-test (λ (x : Option Entry). x ≡ some y → length (cps (y .text)) ≤ 100) (same (cps (e .word)) id)
+    (λ _ r. let z : e ≡ y = cc in subst (λ (x : Entry). length (cps (x .text)) ≤ 100) z (leb-true _ _ (b .0)))
     (λ _. find-small id es y (b .1)) q
 
 -- the text of an entry by its number
-pub entry-small : (table : List Entry) (w : ℕ) → texts-small table ≡ true → length (cps (getD table w ("", "", "") .2)) ≤ 100
+pub entry-small : (table : List Entry) (w : ℕ) → texts-small table ≡ true → length (cps (entry table w .text)) ≤ 100
 unfolding cps encode-all
 entry-small [] zero t = omega arith
 entry-small [] (suc w) t = omega arith
-entry-small (e ∷ es) zero t = leb-true _ _ (both (leb (length (cps (e .2))) 100) (texts-small es) t .0)
-entry-small (e ∷ es) (suc w) t = entry-small es w (both (leb (length (cps (e .2))) 100) (texts-small es) t .1)
+entry-small (e ∷ es) zero t = leb-true _ _ (both (leb (length (cps (e .text))) 100) (texts-small es) t .0)
+entry-small (e ∷ es) (suc w) t = entry-small es w (both (leb (length (cps (e .text))) 100) (texts-small es) t .1)
 
 -- ---- numbers
 

@@ -1,157 +1,232 @@
--- Every choice, every step and every state that a run comes to is sound. Rests on the shapes of the rules (crate `laws_progress`) and on what
--- each reader comes to (Readers).
-use Prim.Native.Nat.{ℕ, _+_}
-use Prim.Native.String.{String}
-use mathlib.Core.Path.{_≡_, refl, subst}
-use mathlib.Core.Bool.{not}
-use mathlib.Core.List.{List, []}
-use mathlib.Core.Option.{Option, none, some}
+-- What every turn of `next-token` says, what every step keeps, and that every state that a run comes to is sound. Rests on the walk over
+-- the rules (Rules), on the longest match (crate `laws_longest`) for what a choice's rule asks, and on what every form keeps (Forms).
+use Prim.Native.Nat.{ℕ, zero, suc, _+_, _-_, _≤_, _<_}
+use mathlib.Core.Path.{_≡_, refl, sym, ap, ap₂, subst, _∙_}
+use mathlib.Core.Bool.{true, false, not, false≢true}
+use mathlib.Core.List.{List, [], _∷_, _++_}
 use native.Mathlib.Omega.{arith}
 use lib.Dec.{eqb}
-use lib.ListN.{length}
-use borrow.Author.Tests.{eqb-true, eqb-false}
-use Rattle.definition.specs.Basics.{Bytes, Turn, fuel, ch}
-use Rattle.definition.specs.Text.{lexeme}
-use Rattle.definition.specs.Chars.{is-newline-char}
-use Rattle.definition.specs.Tables.{Entry, cps, find, keywords}
-use Rattle.definition.specs.Position.{cur-pos}
-use Rattle.definition.specs.Kinds.{kind}
-use Rattle.definition.specs.Matchers.{no-comment}
+use lib.ListN.{length, getD}
+use lib.Seq.{length-slice}
+use borrow.Author.Tests.{eqb-true, eqb-false, ne-eqb}
+use Rattle.definition.specs.Basics.{Bytes, Turn, loop, fuel, ch, codes}
+use Rattle.definition.specs.Utf8.{encode, encode-all}
+use Rattle.definition.specs.Text.{byte-is}
+use Rattle.definition.specs.Tables.{cps, op-tokens}
+use Rattle.definition.specs.Rules.{Rule, RAny, place-rules, rule-of}
 use Rattle.definition.specs.Select.{select}
-use Rattle.definition.specs.Numbers.{clean-number, int-of-string}
-use Rattle.definition.specs.State.{advance, open-comment}
-use Rattle.definition.specs.Item.{Step, lex-error}
-use Rattle.definition.specs.Comment.{comment, line-comment}
-use Rattle.definition.specs.Token.{reserved-prefix, starts-with, finish, finish-entry, finish-word, header, ident, uint8, op, Rule, act, token-turn, next-token, step}
+use Rattle.definition.specs.Item.{Step, error-here}
+use Rattle.definition.specs.Token.{by-rule, act, token-turn, next-token, step}
+use Rattle.definition.specs.Regex.{In, Permits, word}
+use Rattle.definition.specs.Patterns.{pattern, patterns}
+use Rattle.definition.specs.Longest.{Permitted, Longest}
 use Rattle.definition.specs.Reading.{Reached, given, skipped, gave, carried}
 use Rattle.definition.specs.declared.Choice.{Choice}
 use Rattle.definition.specs.declared.State.{State}
-use Rattle.lemmas.proofs.Loops.{Leads}
-use Rattle.lemmas.proofs.Cases.{by-test, by-lt, by-le}
+use Rattle.lemmas.proofs.Loops.{says, Leads, leads-map, Falls, Any, loop-keeps, loop-same, loop-unroll}
+use Rattle.lemmas.proofs.Cases.{by-test, by-le}
+use Rattle.lemmas.proofs.Each.{Numbered, no-more, _⨟_, numbered-within}
 use Rattle.state.specs.Sound.{Stands}
-use Rattle.laws_progress.proofs.Walks.{Walk, Onward, walk-forward, star-walks}
-use Rattle.laws_progress.proofs.Cuts.{slash-goes-on, slash-at, no-comment-walks, no-comment-slash}
-use Rattle.laws_progress.proofs.Choices.{Chosen, Fits, select-fits}
-use Rattle.laws_progress.proofs.Scans.{star-onward}
-use Rattle.laws_progress.proofs.Rules.{Shape, fixed-rule, text-rule, table-rule, file-rule, line-rule, file-line-rule, part-rule, number-rule, uint8-rule, bad-number-rule, char-rule, ident-rule, word-rule, kw-op-rule, gt-rule, op-rule, skip-rule, new-line-rule, string-rule, blob-rule, lang-rule, comment-rule, line-comment-rule, every-rule}
-use Rattle.laws_run.proofs.Moving.{walk-stands, new-line-stands, ended-stands, open-stands}
-use Rattle.laws_run.proofs.TurnsSound.{line-comment-stands}
-use Rattle.laws_run.proofs.Readers.{loop-stands, comment-stands, string-lit-stands, blob-stands, use-lang-stands}
+use Rattle.laws_progress.proofs.Walks.{rest}
+use Rattle.laws_progress.proofs.Cuts.{slash-at}
+use Rattle.laws_progress.proofs.Choices.{kw-op-place, Chosen, select-fits}
+use Rattle.laws_longest.proofs.Law.{select-longest}
+use Rattle.laws_run.proofs.Sizes.{entry-small}
+use Rattle.laws_run.proofs.Moving.{stands-within}
+use Rattle.laws_run.proofs.Paths.{Path, stay, path-path, path-reads, Goes, goes-stands, going-falls}
+use Rattle.laws_run.specs.Left.{Opened}
+use Rattle.laws_run.specs.Budget.{budget}
+use Rattle.laws_run.proofs.Forms.{error, Kept, budget-most, most-budget, piece-sound, piece-kept, form-kept, eof-kept, error-kept, path-kept}
+use Rattle.laws_run.proofs.CommentReader.{comment-piece}
+use Rattle.laws_run.proofs.Rules.{Says, Asks, rule-says}
 
-module _ (s : Bytes) where
-  -- a turn that comes to sound states, and goes on between comments
-  abbrev Safe : Turn State Step → Type 0
-  Safe = Leads (λ b. Stands s b × (b .mode ≡ 0)) (λ t. Stands s (t .next))
+-- ---- the words that stand for the name are long
 
-  module _ (st : State) (h : Stands s st) (m : st .mode ≡ 0) where
-    -- a token up to e
-    finish-safe : {e : ℕ} → Walk s (st .offset) e → (k : ℕ) (text : Bytes) → Safe (finish s st e k text)
-    finish-safe u k text = walk-stands h u
+-- a word's language is the word
+word-in : (cs w : List ℕ) → In (word cs) w → w ≡ cs
+word-in [] w e = e
+word-in (c ∷ cs) w (u, v, e, (a, q, t), h) = e ∙ ap₂ (λ (x y : List ℕ). x ++ y) (q ∙ ap (λ (x : ℕ). x ∷ []) (eqb-true a c t)) (word-in cs v h)
 
-    -- a token up to e that its word decides
-    word-safe : {e : ℕ} → Walk s (st .offset) e → (table : List Entry) (k : String) → Safe (finish-word s st e table k)
-    word-safe {e} u table k = go (find (lexeme s (st .offset) e) table)
-      where
-        go : (x : Option Entry) → Safe (elim x [ some y ↦ finish-entry s st e y | none ↦ finish s st e (kind k) (lexeme s (st .offset) e) ])
-        go (some y) = finish-safe u (kind (y .1)) (cps (y .2))
-        go none = finish-safe u (kind k) (lexeme s (st .offset) e)
+-- so what is permitted is as long as the word
+permitted-size : (cs : List ℕ) (s : Bytes) (i e : ℕ) → Permits (word cs) s i e → e ≡ i + length (encode-all cs)
+permitted-size cs s i e p =
+    let n = ap length (p .bytes ∙ ap encode-all (word-in cs (p .chars) (p .fits))) in
+    omega (arith, n, length-slice i e s (p .within), p .forward)
 
-    -- an identifier, unless its prefix is reserved
-    ident-safe : {e : ℕ} → Walk s (st .offset) e → Safe (ident s st e)
-    ident-safe {e} u =
-        by-test Safe (starts-with (lexeme s (st .offset) e) reserved-prefix) (λ _. ended-stands h m) (λ _. word-safe u keywords "IDENT")
+-- ---- what the rule of a choice asks
 
-    -- a number of a byte, unless it is too big
-    uint8-safe : {e : ℕ} → Walk s (st .offset) e → Safe (uint8 s st e)
-    uint8-safe {e} u =
-        by-lt Safe 255 (int-of-string (clean-number (lexeme s (st .offset) e))) (λ _. ended-stands h m) (λ _. walk-stands h u)
+module _ (s f : Bytes) (U : Type 0) (st : State) (e w : ℕ) where
+  abbrev i : ℕ
+  i = st .offset
 
-    -- an operator; cut to nothing it is a line's comment, which begins with a slash at st
-    op-safe : {e : ℕ} → Onward s (st .offset) e → (k : String) → Safe (op s st e k)
-    op-safe {e} o k =
-        by-test Safe (eqb (no-comment s i e) i)
-        (λ t.
-        let q = slash-at s i (no-comment-slash s i e (o .past) (eqb-true (no-comment s i e) i t)) in
-        let l = star-onward (λ c. not (is-newline-char c)) s i (ch "/") 1 (q .1) slash-goes-on in
-        line-comment-stands s [] st h (omega (arith, h .sound .comments, l .past)))
-        (λ _. walk-stands h (no-comment-walks s i i e (o .walk) (omega arith)))
-      where
-        i : ℕ
-        i = st .offset
+  -- a keyword operator begins with no slash
+  no-slash : Chosen s i kw-op-place e → byte-is (ch "/") s i ≡ true → ⊥
+  no-slash c t =
+      let p = c .no-slash refl in
+      let q = slash-at s i t .1 in
+      let r = p .read in
+      let z : p .code ≡ ch "/" = cc in
+      absurd (false≢true (subst (λ x. not (eqb x (ch "/")) ≡ true) z (p .passes)))
 
-    -- a line's comment behind what was chosen
-    slashes-stand : {e : ℕ} → Onward s (st .offset) e → (pre : Bytes) → Stands s (line-comment s pre (advance st e) .next)
-    slashes-stand {e} o pre =
-        line-comment-stands s pre (advance st e) (walk-stands h (o .walk))
-        (omega (arith, h .sound .comments, o .past, walk-forward (star-walks (λ c. not (is-newline-char c)) s e)))
+  -- of a choice of place k the place's rule gets what it asks
+  abbrev Gets : ℕ → Rule → Type 0
+  Gets k r = Chosen s i k e → Permitted s f k i e → Asks s U st e r
 
-    -- an opening, and the comment behind it
-    opening-stands : {e : ℕ} → Onward s (st .offset) e → Stands s (comment s (st .offset) (open-comment (advance st e) (cur-pos s st)) .next)
-    opening-stands {e} o = comment-stands s (st .offset) (open-comment (advance st e) (cur-pos s st)) (open-stands h m o) refl
+  -- `__SOURCE_FILE__` and `__FILELINE__`
+  file-long : Permitted s f 4 i e → i + 12 ≤ e
+  unfolding pattern patterns encode-all encode
+  file-long p = omega (arith, permitted-size (codes "__SOURCE_FILE__") s i e p)
 
-  module _ (name f : Bytes) where
-    -- what place k does with a choice that it may make
-    abbrev Does : ℕ → Rule → Type 0
-    Does k r = (st : State) (e w : ℕ) → Chosen s (st .offset) k e → Stands s st → st .mode ≡ 0 → Safe (r st e w)
+  file-line-long : Permitted s f 6 i e → i + 12 ≤ e
+  unfolding pattern patterns encode-all encode
+  file-line-long p = omega (arith, permitted-size (codes "__FILELINE__") s i e p)
 
-    -- what each shape of rules does
-    shape-safe : (k : ℕ) (r : Rule) → Shape s name f k r → Does k r
-    shape-safe k r (fixed-rule kinds) st e w c h m = walk-stands h (c .onward .walk)
-    shape-safe k r (text-rule x t small) st e w c h m = walk-stands h (c .onward .walk)
-    shape-safe k r table-rule st e w c h m = walk-stands h (c .onward .walk)
-    shape-safe k r file-rule st e w c h m = walk-stands h (c .onward .walk)
-    shape-safe k r line-rule st e w c h m = walk-stands h (c .onward .walk)
-    shape-safe k r file-line-rule st e w c h m = walk-stands h (c .onward .walk)
-    shape-safe k r (part-rule kinds from to q) st e w c h m = walk-stands h (c .onward .walk)
-    shape-safe k r (number-rule x) st e w c h m = walk-stands h (c .onward .walk)
-    shape-safe k r uint8-rule st e w c h m = uint8-safe st h m (c .onward .walk)
-    shape-safe k r bad-number-rule st e w c h m = ended-stands h m
-    shape-safe k r char-rule st e w c h m = walk-stands h (c .onward .walk)
-    shape-safe k r ident-rule st e w c h m = ident-safe st h m (c .onward .walk)
-    shape-safe k r (word-rule table x small) st e w c h m = word-safe st h m (c .onward .walk) table x
-    shape-safe k r kw-op-rule st e w c h m = walk-stands h (no-comment-walks s (st .offset) (st .offset) e (c .onward .walk) (omega arith))
-    shape-safe k r gt-rule st e w c h m = walk-stands h (no-comment-walks s (st .offset) (st .offset + 1) e (c .onward .walk) (omega arith))
-    shape-safe k r (op-rule x) st e w c h m = op-safe st h m (c .onward) x
-    shape-safe k r skip-rule st e w c h m = (walk-stands h (c .onward .walk), m)
-    shape-safe k r new-line-rule st e w c h m = (new-line-stands h (c .onward), m)
-    shape-safe k r string-rule st e w c h m = string-lit-stands s f (cur-pos s st) (advance st e) (walk-stands h (c .onward .walk)) m
-    shape-safe k r blob-rule st e w c h m = blob-stands s (header s st e 3) (advance st e) (walk-stands h (c .onward .walk)) m
-    shape-safe k r lang-rule st e w c h m = use-lang-stands s (header s st e 6) (advance st e) (walk-stands h (c .onward .walk)) m
-    shape-safe k r comment-rule st e w c h m = opening-stands st h m (c .onward)
-    shape-safe k r line-comment-rule st e w c h m = slashes-stand st h m (c .onward) (lexeme s (st .offset) e)
+  -- most rules ask nothing
+  plain : {X Y : Type 0} → X → Y → Unit {0}
+  plain _ _ = tt
 
-    -- what is done with a choice
-    act-stands : (st : State) (c : Choice) → Fits s (st .offset) c → Stands s st → st .mode ≡ 0 → Safe (act s name f st c)
-    unfolding act
-    act-stands st c q h m = by-test Safe (eqb (c .place) 0) (λ _. ended-stands h m) λ t.
-        every-rule s name f Does shape-safe (λ k st e w _ h m. ended-stands h m) (c .place) t st (c .end) (c .word) (q .chosen t) h m
+  place-gets : Numbered Gets 1 (place-rules w)
+  unfolding place-rules op-tokens cps encode-all encode
+  place-gets =
+      plain ⨟ plain ⨟ plain
+      ⨟ (λ _ p. file-long p)  -- 4 RSourceFile
+      ⨟ plain
+      ⨟ (λ _ p. file-line-long p)  -- 6 RFileLine
+      ⨟ plain ⨟ plain ⨟ plain ⨟ plain ⨟ plain
+      ⨟ (λ c _. no-slash c)  -- 12 RKwOp
+      ⨟ plain ⨟ plain ⨟ plain ⨟ plain ⨟ plain ⨟ plain ⨟ plain ⨟ plain ⨟ plain ⨟ plain ⨟ plain ⨟ plain ⨟ plain ⨟ plain ⨟ plain ⨟ plain
+      ⨟ plain ⨟ plain ⨟ plain ⨟ plain ⨟ plain ⨟ plain ⨟ plain
+      ⨟ (λ _ _. entry-small op-tokens w refl)  -- 36 ROpToken
+      ⨟ plain ⨟ plain ⨟ plain ⨟ plain ⨟ plain ⨟ plain ⨟ plain ⨟ plain ⨟ plain ⨟ plain ⨟ plain ⨟ plain ⨟ plain ⨟ plain
+      ⨟ no-more
 
-    -- A turn of `next-token`.
-    pub token-turn-stands : (st : State) → Stands s st → st .mode ≡ 0
-        → Leads (λ b. Stands s b × (b .mode ≡ 0)) (λ t. Stands s (t .next)) (token-turn s name f st)
-    unfolding token-turn
-    token-turn-stands st h m =
-        by-le Safe (length s) (st .offset) (λ _. ended-stands h m)
-        (λ _. act-stands st (select s f (st .offset)) (select-fits s (st .offset) f) h m)
+-- so does the rule of the choice at st; where that is none of the places, the rule is `RAny`
+choice-gets : (s f : Bytes) (st : State) (c : Choice) → Longest s f (st .offset) c → ((c .place ≡ 0 → ⊥) → Chosen s (st .offset) (c .place) (c .end))
+    → (k : ℕ) → c .place ≡ k → Asks s (c .place ≡ 0) st (c .end) (getD (RAny ∷ place-rules (c .word)) k RAny)
+unfolding place-rules
+choice-gets s f st c l h zero q = q
+choice-gets s f st c l h (suc k) q =
+    let n : c .place ≡ 0 → ⊥ = λ z. absurd (omega arith) in
+    let r : 1 + k ≡ c .place = omega arith in
+    numbered-within RAny (place-gets s f (c .place ≡ 0) st (c .end) (c .word)) k (omega (arith, l .place))
+    (subst (λ (m : ℕ). Chosen s (st .offset) m (c .end)) (sym r) (h n))
+    (subst (λ (m : ℕ). Permitted s f m (st .offset) (c .end)) (sym r) (l .fits n))
 
-    -- The next token.
-    pub next-token-stands : (st : State) → Stands s st → st .mode ≡ 0 → Stands s (next-token s name f st .next)
-    unfolding next-token
-    next-token-stands =
-        loop-stands s 0 (λ a. a) (token-turn s name f) (λ a. lex-error s a 6 [] (cur-pos s a) (cur-pos s a)) token-turn-stands (λ a. ended-stands) (fuel s)
+-- ---- turns
 
-    -- A step from a state that has not ended.
-    pub step-stands : (st : State) → Stands s st → (st .mode ≡ 2 → ⊥) → Stands s (step s name f st .next)
-    unfolding step
-    step-stands st h n =
-        by-test (λ (t : Step). Stands s (t .next)) (eqb (st .mode) 1)
-        (λ t. comment-stands s (st .offset) st h (eqb-true (st .mode) 1 t))
-        (λ t. let q : st .mode ≡ 1 → ⊥ = eqb-false (st .mode) 1 t in next-token-stands st h (omega (arith, h .sound .mode)))
+-- between two items a state is neither in a comment nor past the end
+pub record Between (st : State) : Type 0 where
+  pub no-comment : st .mode ≡ 1 → ⊥
+  pub going : st .mode ≡ 2 → ⊥
 
-    -- Every state that a run comes to.
-    pub reached-stands : {g st : State} → Reached s name f g st → Stands s g → Stands s st
-    reached-stands given h = h
-    reached-stands (skipped {st} {next} r m e) h =
-        let q : Stands s next × (next .mode ≡ 0) = subst Safe e (token-turn-stands st (reached-stands r h) m) in q .0
-    reached-stands (gave {st} {t} r m e) h = subst Safe e (token-turn-stands st (reached-stands r h) m)
-    reached-stands (carried {st} r m) h = comment-stands s (st .offset) st (reached-stands r h) m
+pub zero-between : {st : State} → st .mode ≡ 0 → Between st
+zero-between m = record { no-comment = λ n. absurd (omega arith); going = λ n. absurd (omega arith) }
+
+between-zero : {s : Bytes} {st : State} → Between st → Stands s st → st .mode ≡ 0
+between-zero {s} {st} n h =
+    let a = n .no-comment in
+    let b = n .going in
+    omega (arith, h .sound .mode)
+
+module _ (s name f : Bytes) where
+  -- what is done with the choice at st; error 6 says that none of the places was chosen
+  act-says : (st : State) → st .offset ≤ length s → Says s name (select s f (st .offset) .place ≡ 0) st (act s name f st (select s f (st .offset)))
+  unfolding act rule-of
+  act-says st h = go (c .place) refl
+    where
+      c : Choice
+      c = select s f (st .offset)
+
+      chosen : (c .place ≡ 0 → ⊥) → Chosen s (st .offset) (c .place) (c .end)
+      chosen n = select-fits s (st .offset) f .chosen (ne-eqb (c .place) 0 n)
+
+      asks : (k : ℕ) → c .place ≡ k → Asks s (c .place ≡ 0) st (c .end) (getD (RAny ∷ place-rules (c .word)) k RAny)
+      asks = choice-gets s f st c (select-longest s f (st .offset) h) chosen
+
+      go : (k : ℕ) → c .place ≡ k → Says s name (c .place ≡ 0) st (by-rule s name f st (c .end) (getD (RAny ∷ place-rules (c .word)) k RAny))
+      go zero q = error {a = st} 6 [] _ _ stay (omega arith) (λ _. q)
+      go (suc k) q =
+          rule-says s name (c .place ≡ 0) st (chosen (λ z. absurd (omega arith)) .onward) f (getD (RAny ∷ place-rules (c .word)) (suc k) RAny) (asks (suc k) q)
+
+  -- Before the text's end a turn of `next-token` skips something, or gives an item of some form.
+  pub turn-says : (st : State) → st .offset < length s → Says s name (select s f (st .offset) .place ≡ 0) st (token-turn s name f st)
+  unfolding token-turn
+  turn-says st h =
+      by-le (Says s name (select s f (st .offset) .place ≡ 0) st) (length s) (st .offset) (λ l. absurd (omega arith)) (λ _. act-says st (omega arith))
+
+  -- Everywhere a turn skips something, or gives an item that keeps all that is kept.
+  pub turn-keeps : (st : State) → Between st → Leads (Goes s (Unit {0}) st) (Kept s name st) (token-turn s name f st)
+  unfolding token-turn
+  turn-keeps st n =
+      by-le (Leads (Goes s (Unit {0}) st) (Kept s name st)) (length s) (st .offset) (λ _. eof-kept st _ _ (between-zero n))
+      (λ l. leads-map (λ b g. g) (λ t k. form-kept (between-zero n) (omega arith) k) (act s name f st (select s f (st .offset))) (act-says st (omega arith)))
+
+  -- ---- `next-token`
+
+  -- each turn reads something
+  pub token-falls : Falls (token-turn s name f) Any (λ st. rest s (st .offset)) Any
+  unfolding token-turn
+  token-falls = going-falls s (λ st. st) (token-turn s name f) Any (λ st. Any) (λ st b p c. c) λ st.
+      by-le (Leads (Goes s (Unit {0}) st) Any) (length s) (st .offset) (λ _. tt)
+      (λ l. leads-map (λ b g. g) (λ t k. tt) (act s name f st (select s f (st .offset))) (act-says st (omega arith)))
+
+  -- more fuel and another `out` change nothing
+  pub token-enough : (out : State → Step) (n : ℕ) (st : State) → rest s (st .offset) < n → loop (token-turn s name f) out n st ≡ next-token s name f st
+  unfolding next-token
+  token-enough out n st h = loop-same token-falls out _ n (fuel s) st tt h (omega arith)
+
+  -- `next-token` is what its first turn says
+  pub token-unroll : (st : State) → next-token s name f st ≡ says (token-turn s name f st) (next-token s name f)
+  unfolding next-token
+  token-unroll st = loop-unroll token-falls _ (fuel s) st tt (omega arith)
+
+  -- after a path a state is still between two items
+  path-between : {st a : State} → Path s st a → Between st → Between a
+  path-between p n =
+      let q = path-reads p .mode in
+      record { no-comment = λ m. n .no-comment (sym q ∙ m); going = λ m. n .going (sym q ∙ m) }
+
+  -- the next token
+  next-token-kept : (st : State) → Between st → Kept s name st (next-token s name f st)
+  unfolding next-token
+  next-token-kept st n =
+      loop-keeps (token-turn s name f) (Path s st) (Kept s name st) (λ a. error-here s a 6)
+      (λ a p. leads-map (λ b g. path-path p (g .path)) (λ t k. path-kept p k) (token-turn s name f a) (turn-keeps a (path-between p n)))
+      (λ a p. path-kept p (ended-kept a (path-between p n))) (fuel s) st stay
+    where
+      -- past its fuel it would be an error
+      ended-kept : (a : State) → Between a → Kept s name a (error-here s a 6)
+      ended-kept a n = error-kept a (between-zero n)
+
+  -- ---- steps
+
+  -- What every step keeps.
+  pub step-kept : (st : State) → Opened st → (st .mode ≡ 2 → ⊥) → Kept s name st (step s name f st)
+  unfolding step
+  step-kept st o n =
+      by-test (Kept s name st) (eqb (st .mode) 1)
+      (λ t. let m = eqb-true (st .mode) 1 t in piece-kept (o m) m (comment-piece s (st .offset) 0 st (omega arith) m))
+      (λ t. next-token-kept st record { no-comment = eqb-false (st .mode) 1 t; going = n })
+
+  -- A step from a sound state comes to one.
+  pub step-stands : (st : State) → Stands s st → (st .mode ≡ 2 → ⊥) → Stands s (step s name f st .next)
+  step-stands st h n = step-kept st (h .sound .opened) n .sound h
+
+  -- A step's payload, and what is left to spend after it.
+  pub payload-bound : length name ≤ 4096 → (st : State) → Stands s st → (st .mode ≡ 2 → ⊥) → length (step s name f st .payload) + budget s (step s name f st .next) ≤ budget s st
+  payload-bound named st h n = omega (arith, step-kept st (h .sound .opened) n .bounded h named, most-budget s st n)
+
+  -- Every state that a run comes to is sound.
+  pub reached-stands : {g st : State} → Reached s name f g st → Stands s g → Stands s st
+  reached-stands given h = h
+  reached-stands (skipped {st} {next} r m e) h =
+      let v : Goes s (Unit {0}) st next = subst (Leads (Goes s (Unit {0}) st) (Kept s name st)) e (turn-keeps st (zero-between m)) in
+      goes-stands v (reached-stands r h) .0
+  reached-stands (gave {st} {t} r m e) h =
+      let v : Kept s name st t = subst (Leads (Goes s (Unit {0}) st) (Kept s name st)) e (turn-keeps st (zero-between m)) in
+      v .sound (reached-stands r h)
+  reached-stands (carried {st} r m) h = piece-sound (comment-piece s (st .offset) 0 st (omega arith) m) (reached-stands r h) m
+
+-- What a run can write of payloads at all: 402 bytes for each of the longest text.
+pub budget-small : (s : Bytes) (st : State) → Stands s st → budget s st ≤ 421527552
+budget-small s st h = omega (arith, budget-most s st, h .sound .comments, stands-within h, h .short)

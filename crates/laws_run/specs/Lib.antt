@@ -1,6 +1,7 @@
--- `Budget` is what a run can still write of payloads.
+-- `Left` is what is left to read, `Budget` what a run can still write of payloads, `Going` the loops of the definition gone on with.
+pub mod Left
 pub mod Budget
--- `Items` is the items of a text from a state, `Written` what a run has written, `Split` runs one after another.
-pub mod Items
+pub mod Going
+-- `Written` is what a run has written, `Split` runs one after another.
 pub mod Written
 pub mod Split

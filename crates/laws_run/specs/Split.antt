@@ -7,7 +7,7 @@ use Rattle.definition.specs.Basics.{Bytes, if_then_else_}
 use Rattle.definition.specs.Item.{record-size}
 use Rattle.definition.specs.Run.{Outcome, run}
 use Rattle.definition.specs.declared.State.{State}
-use Rattle.laws_run.specs.Items.{Told, without-6}
+use Rattle.definition.specs.Items.{Told, without-6}
 
 -- ---- the items in the buffers
 

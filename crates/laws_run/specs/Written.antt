@@ -1,29 +1,19 @@
 -- What a run that isn't refused has done: which items it wrote, what its two buffers hold then, and why it stopped.
 -- s is the text, name the file's name, f the class file, st the state given; rs and ps are the buffers as they were lent.
-use Prim.Native.Nat.{ℕ, _+_, _-_, _*_, _≤_, _<_}
+use Prim.Native.Nat.{ℕ, _-_, _*_, _≤_, _<_}
 use mathlib.Core.Path.{_≡_}
-use mathlib.Core.List.{List, [], _∷_, _++_}
+use mathlib.Core.List.{List}
 use mathlib.Core.Logic.{_↔_}
 use lib.ListN.{length}
 use Rattle.definition.specs.Basics.{Bytes}
-use Rattle.definition.specs.Item.{Step, record-size, words}
+use Rattle.definition.specs.Item.{Step, record-size}
 use Rattle.definition.specs.Token.{step}
 use Rattle.definition.specs.Run.{Outcome}
 use Rattle.definition.specs.declared.State.{State}
 use Rattle.lemmas.specs.Over.{over}
-use Rattle.laws_run.specs.Items.{Steps}
+use Rattle.definition.specs.Items.{Steps, records-of, payloads-of}
 
 -- ---- what is written for some items
-
--- their records, where the first payload begins at byte `used`
-unfoldable pub records-of : ℕ → List Step → List ℕ
-records-of used [] = []
-records-of used (t ∷ ts) = words (t .item) used ++ records-of (used + length (t .payload)) ts
-
--- their payloads
-unfoldable pub payloads-of : List Step → Bytes
-payloads-of [] = []
-payloads-of (t ∷ ts) = t .payload ++ payloads-of ts
 
 -- "Numbers and bytes past the last written item and its payload keep what they held": ts were written from the fronts of rs and ps on, which
 -- then are rs′ and ps′, and b is the state after them

@@ -1,9 +1,9 @@
 -- A fact for each element of a list, in order. Rests on nothing.
-use Prim.Native.Nat.{ℕ, zero, suc, _+_}
+use Prim.Native.Nat.{ℕ, zero, suc, _+_, _<_}
 use mathlib.Core.Path.{_≡_, subst}
 use mathlib.Core.List.{List, [], _∷_, map}
 use native.Mathlib.Omega.{arith}
-use lib.ListN.{getD}
+use lib.ListN.{length, getD}
 
 infixr 5 _⨾_
 infixr 5 _⨟_
@@ -22,11 +22,13 @@ pub data Numbered {A : Type 0} (P : ℕ → A → Type 0) : ℕ → List A → T
   no-more : {n : ℕ} → Numbered P n []
   _⨟_ : {n : ℕ} {a : A} {l : List A} → P n a → Numbered P (suc n) l → Numbered P n (a ∷ l)
 
--- the element numbered n + k, or d where there is none
-pub numbered-at : {A : Type 0} {P : ℕ → A → Type 0} {n : ℕ} {l : List A} (d : A) → ((k : ℕ) → P k d) → Numbered P n l → (k : ℕ) → P (n + k) (getD l k d)
-numbered-at d h no-more k = h _
-numbered-at {P = P} {n} {l = a ∷ l} d h (p ⨟ ps) zero = let q : n ≡ n + 0 = omega arith in subst (λ m. P m a) q p
-numbered-at {P = P} {n} {l = a ∷ l} d h (p ⨟ ps) (suc k) = let q : suc n + k ≡ n + suc k = omega arith in subst (λ m. P m (getD l k d)) q (numbered-at d h ps k)
+-- the element numbered n + k, where there is one
+pub numbered-within : {A : Type 0} {P : ℕ → A → Type 0} {n : ℕ} {l : List A} (d : A) → Numbered P n l → (k : ℕ) → k < length l → P (n + k) (getD l k d)
+numbered-within d no-more k h = absurd (omega arith)
+numbered-within {P = P} {n} {l = a ∷ l} d (p ⨟ ps) zero h = let q : n ≡ n + 0 = omega arith in subst (λ m. P m a) q p
+numbered-within {P = P} {n} {l = a ∷ l} d (p ⨟ ps) (suc k) h =
+    let q : suc n + k ≡ n + suc k = omega arith in
+    subst (λ m. P m (getD l k d)) q (numbered-within d ps k (omega arith))
 
 -- what follows from P of each element and its number
 pub numbered-map : {A : Type 0} {P Q : ℕ → A → Type 0} {n : ℕ} {l : List A} → ((k : ℕ) (a : A) → P k a → Q k a) → Numbered P n l → Numbered Q n l

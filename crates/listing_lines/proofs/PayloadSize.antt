@@ -12,7 +12,7 @@ use lib.ListN.{length, length-append}
 use borrow.Author.Tests.{eqb-false}
 use Rattle.definition.specs.Basics.{Bytes, Turn, again, done, fuel, ch}
 use Rattle.definition.specs.Utf8.{encode, encode-all}
-use Rattle.definition.specs.Text.{byte-is, lexeme, star}
+use Rattle.definition.specs.Text.{byte-is, lexeme, star, run-end}
 use Rattle.definition.specs.Chars.{is-newline-char, is-anywhite}
 use Rattle.definition.specs.Tables.{Entry, cps, find, keywords, op-tokens}
 use Rattle.definition.specs.Position.{cur-pos, pos-of}
@@ -23,10 +23,10 @@ use Rattle.definition.specs.Numbers.{clean-number, int-of-string, show}
 use Rattle.definition.specs.Escapes.{unescape, is-surrogate}
 use Rattle.definition.specs.State.{advance, new-line, open-comment}
 use Rattle.definition.specs.Item.{Step, lex-error}
-use Rattle.definition.specs.Comment.{run-end, comment-stop, terminate, comment-turn, comment, line-comment}
+use Rattle.definition.specs.Comment.{comment-stop, terminate, comment-turn, comment, line-comment}
 use Rattle.definition.specs.Strings.{string-stop, escape-turn, string-turn, string-lit}
 use Rattle.definition.specs.Blob.{Header, unterminated, blob-stop, blob-turn, blob, lang-turn, use-lang}
-use Rattle.definition.specs.Token.{reserved-prefix, starts-with, finish, finish-entry, finish-word, header, ident, uint8, op, Rule, act, token-turn, next-token, step}
+use Rattle.definition.specs.Token.{reserved-prefix, starts-with, finish, finish-entry, finish-word, blob-header, ident, uint8, op, Rule, act, token-turn, next-token, step}
 use Rattle.definition.specs.declared.Pos.{Pos}
 use Rattle.definition.specs.declared.Choice.{Choice}
 use Rattle.definition.specs.declared.State.{State}
@@ -331,8 +331,8 @@ module _ (s : Bytes) where
     shape-short k r skip-rule st e w c l = tt
     shape-short k r new-line-rule st e w c l = tt
     shape-short k r string-rule st e w c l = string-short f (cur-pos s st) (advance st e) (c .onward .within)
-    shape-short k r blob-rule st e w c l = blob-short (header s st e 3) (advance st e) (c .onward .within) (part-short (st .offset + 3) e (c .onward .within))
-    shape-short k r lang-rule st e w c l = lang-short (header s st e 6) (advance st e) (c .onward .within) (part-short (st .offset + 6) e (c .onward .within))
+    shape-short k r blob-rule st e w c l = blob-short (blob-header s st e 3) (advance st e) (c .onward .within) (part-short (st .offset + 3) e (c .onward .within))
+    shape-short k r lang-rule st e w c l = lang-short (blob-header s st e 6) (advance st e) (c .onward .within) (part-short (st .offset + 6) e (c .onward .within))
     shape-short k r comment-rule st e w c l = comment-short (st .offset) (open-comment (advance st e) (cur-pos s st)) (c .onward .within)
     shape-short k r line-comment-rule st e w c l =
         line-comment-short (lexeme s (st .offset) e) (advance st e) (c .onward .within) (part-short (st .offset) e (c .onward .within))

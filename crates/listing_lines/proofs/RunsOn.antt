@@ -16,8 +16,8 @@ use Rattle.lemmas.proofs.Cases.{by-outcome}
 use Rattle.laws_progress.proofs.Moves.{left, Opened}
 use Rattle.laws_run.proofs.Refusals.{run-accepted}
 use Rattle.state.specs.Sound.{Stands}
-use Rattle.laws_run.specs.Items.{steps-of, Steps}
-use Rattle.laws_run.specs.Written.{payloads-of, Stops}
+use Rattle.definition.specs.Items.{steps-of, Steps, payloads-of}
+use Rattle.laws_run.specs.Written.{Stops}
 use Rattle.laws_run.proofs.Items.{step-left, steps-of-end, steps-then}
 use Rattle.laws_run.proofs.Laws.{run-refused, run-done, handed-back-taken}
 use Rattle.listing_lines.specs.Writing.{Room}

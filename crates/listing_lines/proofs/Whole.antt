@@ -12,8 +12,7 @@ use Rattle.definition.specs.declared.Item.{Item}
 use Rattle.definition.specs.declared.State.{State}
 use Rattle.lemmas.specs.Over.{over}
 use Rattle.laws_run.proofs.Refusals.{run-accepted}
-use Rattle.laws_run.specs.Items.{steps-of}
-use Rattle.laws_run.specs.Written.{records-of}
+use Rattle.definition.specs.Items.{steps-of, records-of}
 use Rattle.laws_run.proofs.Items.{steps-of-end, steps-then}
 use Rattle.laws_run.proofs.Buffers.{words-size}
 use Rattle.laws_run.proofs.Laws.{run-done}

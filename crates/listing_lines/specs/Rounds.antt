@@ -10,7 +10,7 @@ use Rattle.definition.specs.Run.{Outcome, refusal}
 use Rattle.definition.specs.declared.RunAnswer.{RunAnswer}
 use Rattle.definition.specs.declared.State.{State}
 use Rattle.lemmas.specs.Over.{Wrote}
-use Rattle.laws_run.specs.Items.{steps-of}
+use Rattle.definition.specs.Items.{steps-of}
 use Rattle.listing_lines.specs.Line.{line, lines}
 use Rattle.listing_lines.specs.declared.rounds.Ending.{Ending}
 use Rattle.listing_lines.specs.declared.rounds.Ending.the-variants.{Refusal, All}

@@ -4,11 +4,10 @@ use mathlib.Core.Path.{_≡_, sym, ap, _∙_}
 use borrow.Author.Tests.{lt-ltb, le-ltb, le-leb, lt-leb}
 use lib.ListN.{length}
 use Rattle.definition.specs.Basics.{Bytes, ch}
-use Rattle.definition.specs.Text.{star}
+use Rattle.definition.specs.Text.{star, run-end, after}
 use Rattle.definition.specs.Chars.{is-newline-char}
 use Rattle.definition.specs.Tables.{cps}
 use Rattle.definition.specs.Matchers.{match-lit, match-newline}
-use Rattle.definition.specs.Comment.{run-end, after}
 use Rattle.definition.specs.Blob.{blob-stop}
 use Rattle.definition.specs.declared.Match.the-variants.{To, Nothing}
 use Rattle.star.specs.Stops.{goes-on}

@@ -12,7 +12,7 @@ use Rattle.definition.specs.Chars.{is-newline-char}
 use Rattle.definition.specs.Matchers.{match-lit, match-newline}
 use Rattle.definition.specs.State.{advance}
 use Rattle.definition.specs.Item.{Step}
-use Rattle.definition.specs.Comment.{run-end}
+use Rattle.definition.specs.Text.{run-end}
 use Rattle.definition.specs.Blob as source
 use Rattle.definition.specs.declared.State.{State}
 use Rattle.lemmas.proofs.Cases.{by-found, by-outcome}

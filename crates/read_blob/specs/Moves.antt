@@ -7,7 +7,7 @@ use Rattle.definition.specs.Basics.{Bytes, if_then_else_}
 use Rattle.definition.specs.Chars.{is-newline-char}
 use Rattle.definition.specs.Tables.{cps}
 use Rattle.definition.specs.Matchers.{match-lit, match-newline}
-use Rattle.definition.specs.Comment.{run-end, after}
+use Rattle.definition.specs.Text.{run-end, after}
 use Rattle.definition.specs.Blob.{blob-stop}
 use Rattle.definition.specs.declared.Match.the-variants.{To, Nothing}
 use Rattle.read_blob.specs.declared.Move.{Move}

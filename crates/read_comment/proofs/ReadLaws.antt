@@ -7,11 +7,11 @@ use native.Mathlib.Omega.{arith}
 use lib.ListN.{length, take, drop, length-take}
 use lib.Seq.{slice, length-slice, take-take}
 use Rattle.definition.specs.Basics.{Bytes, ch}
-use Rattle.definition.specs.Text.{lexeme, star}
+use Rattle.definition.specs.Text.{lexeme, star, run-end}
 use Rattle.definition.specs.Chars.{is-newline-char}
 use Rattle.definition.specs.Position.{one-each}
 use Rattle.definition.specs.State.{advance, one-more-comment}
-use Rattle.definition.specs.Comment.{run-end, line-comment}
+use Rattle.definition.specs.Comment.{line-comment}
 use Rattle.definition.specs.declared.State.{State}
 use Rattle.definition.specs.declared.Extra.the-variants.{Comment}
 use Rattle.lemmas.proofs.Lists.{slice-then-drop}

@@ -7,11 +7,11 @@ use lib.Dec.{ltb}
 use lib.ListN.{length}
 use borrow.Author.Tests.{lt-ltb, le-ltb, le-leb, lt-leb}
 use Rattle.definition.specs.Basics.{Bytes, Turn, ch, again, done}
-use Rattle.definition.specs.Text.{byte-is, star}
+use Rattle.definition.specs.Text.{byte-is, star, run-end, after}
 use Rattle.definition.specs.Matchers.{match-newline}
 use Rattle.definition.specs.State.{deeper}
 use Rattle.definition.specs.Item.{Step}
-use Rattle.definition.specs.Comment.{run-end, after, comment-stop, terminate, comment-turn}
+use Rattle.definition.specs.Comment.{comment-stop, terminate, comment-turn}
 use Rattle.definition.specs.declared.State.{State}
 use Rattle.definition.specs.declared.Match.the-variants.{To}
 use Rattle.laws_progress.proofs.Walks.{Onward, walk-within, star-walks}

@@ -5,10 +5,10 @@ use mathlib.Core.Path.{_≡_}
 use mathlib.Core.Bool.{false, _&&_}
 use lib.ListN.{length}
 use Rattle.definition.specs.Basics.{Bytes, Turn, ch}
-use Rattle.definition.specs.Text.{byte-is}
+use Rattle.definition.specs.Text.{byte-is, run-end}
 use Rattle.definition.specs.Matchers.{match-newline}
 use Rattle.definition.specs.Item.{Step}
-use Rattle.definition.specs.Comment.{run-end, comment-stop}
+use Rattle.definition.specs.Comment.{comment-stop}
 use Rattle.definition.specs.declared.State.{State}
 use Rattle.definition.specs.declared.Match.the-variants.{Nothing}
 use Rattle.reader.specs.Described.{Turns}

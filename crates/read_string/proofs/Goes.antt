@@ -5,11 +5,10 @@ use mathlib.Core.Path.{_≡_}
 use native.Mathlib.Omega.{arith}
 use lib.ListN.{length}
 use Rattle.definition.specs.Basics.{Bytes, ch}
-use Rattle.definition.specs.Text.{byte-is}
+use Rattle.definition.specs.Text.{byte-is, run-end}
 use Rattle.definition.specs.Chars.{is-anywhite}
 use Rattle.definition.specs.Matchers.{match-newline, match-escape}
 use Rattle.definition.specs.Escapes.{unescape, is-surrogate}
-use Rattle.definition.specs.Comment.{run-end}
 use Rattle.definition.specs.Strings.{string-stop}
 use Rattle.definition.specs.declared.Match.the-variants.{To}
 use Rattle.lemmas.proofs.Cases.{by-test, by-lt, by-le, by-match}

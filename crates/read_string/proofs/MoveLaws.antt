@@ -6,11 +6,10 @@ use lib.Dec.{eqb}
 use lib.ListN.{length, getD}
 use borrow.Author.Tests.{lt-ltb, le-ltb, le-leb, lt-leb, eq-eqb, ne-eqb}
 use Rattle.definition.specs.Basics.{Bytes, ch}
-use Rattle.definition.specs.Text.{byte-is, star}
+use Rattle.definition.specs.Text.{byte-is, star, run-end}
 use Rattle.definition.specs.Chars.{is-anywhite}
 use Rattle.definition.specs.Matchers.{match-newline, match-escape}
 use Rattle.definition.specs.Escapes.{unescape, is-surrogate}
-use Rattle.definition.specs.Comment.{run-end}
 use Rattle.definition.specs.Strings.{string-stop}
 use Rattle.definition.specs.declared.Match.{Match}
 use Rattle.definition.specs.declared.Match.the-variants.{To, Nothing}

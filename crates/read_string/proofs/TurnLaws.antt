@@ -3,10 +3,9 @@ use mathlib.Core.Path.{_≡_}
 use lib.Dec.{ltb, leb}
 use lib.ListN.{length}
 use Rattle.definition.specs.Basics.{Bytes, ch}
-use Rattle.definition.specs.Text.{byte-is}
+use Rattle.definition.specs.Text.{byte-is, run-end}
 use Rattle.definition.specs.Matchers.{match-newline, match-escape}
 use Rattle.definition.specs.Escapes.{unescape, is-surrogate}
-use Rattle.definition.specs.Comment.{run-end}
 use Rattle.definition.specs.Strings.{string-stop, escape-turn, string-turn}
 use Rattle.definition.specs.declared.Pos.{Pos}
 use Rattle.definition.specs.declared.State.{State}

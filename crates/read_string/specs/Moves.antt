@@ -4,11 +4,10 @@ use mathlib.Core.Bool.{true, false}
 use lib.Dec.{ltb, leb}
 use lib.ListN.{length}
 use Rattle.definition.specs.Basics.{Bytes, ch}
-use Rattle.definition.specs.Text.{byte-is, star}
+use Rattle.definition.specs.Text.{byte-is, star, run-end}
 use Rattle.definition.specs.Chars.{is-anywhite}
 use Rattle.definition.specs.Matchers.{only, match-newline, match-escape}
 use Rattle.definition.specs.Escapes.{unescape, is-surrogate}
-use Rattle.definition.specs.Comment.{run-end}
 use Rattle.definition.specs.Strings.{string-stop}
 use Rattle.definition.specs.declared.Match.{Match}
 use Rattle.definition.specs.declared.Match.the-variants.{To, Nothing}

@@ -6,17 +6,17 @@ use mathlib.Core.Path.{_≡_, refl, sym, subst}
 use mathlib.Core.Bool.{Bool, true, _&&_}
 use mathlib.Core.List.{List, [], _∷_}
 use lib.Dec.{leb}
-use lib.ListN.{length}
+use lib.ListN.{length, getD}
 use lib.Seq.{length-slice}
 use borrow.Author.Tests.{eq-eqb, ne-eqb, leb-true}
 use Rattle.definition.specs.Basics.{Bytes, ch}
 use Rattle.definition.specs.Utf8.{encode, encode-all}
 use Rattle.definition.specs.Text.{lexeme}
 use Rattle.definition.specs.Kinds.{kind}
-use Rattle.definition.specs.Tables.{Entry, cps, kw-op-rules}
+use Rattle.definition.specs.Tables.{KwOp, cps, kw-op-rules, kw-op-entry, no-kw-op}
 use Rattle.definition.specs.Matchers.{no-comment}
 use Rattle.definition.specs.State.{advance}
-use Rattle.definition.specs.Token.{entry, kw-op, gt, op}
+use Rattle.definition.specs.Token.{kw-op, gt, op}
 use Rattle.definition.specs.declared.State.{State}
 use Rattle.state.specs.Sound.{Stands}
 use Rattle.lemmas.proofs.Cases.{both}
@@ -74,22 +74,22 @@ module _ {s : Bytes} {at : Cursor} {e : ℕ} (h : Chose s at e) where
 
   module _ (name : Bytes) where
     -- a keyword before operators, and by itself
-    module _ {to n : ℕ} (x : Entry) (q : to ≡ no-comment s i e) (m : n ≡ length (cps (x .0))) where
+    module _ {to n : ℕ} (x : KwOp) (q : to ≡ no-comment s i e) (m : n ≡ length (cps (x .word))) where
       size : length (lexeme s (i + n) to) ≡ to - (i + n)
       size = length-slice (i + n) to s (cut-within i (omega arith) q)
 
       describes : (f : Bytes) → Describes s name f (Part (i + n) to) (lexeme s (i + n) to)
       describes f = part-describes s name f (i + n) to (cut-within i (omega arith) q)
 
-      pub kw-before-rules : {k : ℕ} → i + n < to → k ≡ kind (x .2) → Rules s name at e (kw-op s st e x) (Token k i to (Part (i + n) to))
+      pub kw-before-rules : {k : ℕ} → i + n < to → k ≡ kind (x .op-kind) → Rules s name at e (kw-op s st e x) (Token k i to (Part (i + n) to))
       kw-before-rules l p =
           token-rules (lexeme s (i + n) to) describes (cut-spans q)
-          (rw (← q, ← m, rest-some (lexeme s (i + n) to) (kind (x .1)) (kind (x .2)) (omega (arith, size)), ← p) refl)
+          (rw (← q, ← m, rest-some (lexeme s (i + n) to) (kind (x .kind)) (kind (x .op-kind)) (omega (arith, size)), ← p) refl)
 
-      pub kw-plain-rules : {k : ℕ} → to ≤ i + n → k ≡ kind (x .1) → Rules s name at e (kw-op s st e x) (Token k i to (Part (i + n) to))
+      pub kw-plain-rules : {k : ℕ} → to ≤ i + n → k ≡ kind (x .kind) → Rules s name at e (kw-op s st e x) (Token k i to (Part (i + n) to))
       kw-plain-rules l p =
           token-rules (lexeme s (i + n) to) describes (cut-spans q)
-          (rw (← q, ← m, rest-none (lexeme s (i + n) to) (kind (x .1)) (kind (x .2)) (omega (arith, size)), ← p) refl)
+          (rw (← q, ← m, rest-none (lexeme s (i + n) to) (kind (x .kind)) (kind (x .op-kind)) (omega (arith, size)), ← p) refl)
 
     -- `>` and what is left behind it
     pub gt-rules : {to : ℕ} → to ≡ no-comment s (i + 1) e → Rules s name at e (gt s st e) (Token (kind "OPINFIX0c") (i + 1) to (Greater (i + 1) to))
@@ -108,16 +108,16 @@ module _ {s : Bytes} {at : Cursor} {e : ℕ} (h : Chose s at e) where
         (rw (op, ← q, ne-eqb to i z, ← q, ← p) refl)
 
 -- no word before operators is long
-abbrev words-short : List Entry → Bool
+abbrev words-short : List KwOp → Bool
 words-short [] = true
-words-short (x ∷ xs) = leb (length (cps (x .0))) 6 && words-short xs
+words-short (x ∷ xs) = leb (length (cps (x .word))) 6 && words-short xs
 
-word-short : (table : List Entry) → words-short table ≡ true → (w : ℕ) → length (cps (entry table w .0)) ≤ 6
+word-short : (table : List KwOp) → words-short table ≡ true → (w : ℕ) → length (cps (getD table w no-kw-op .word)) ≤ 6
 unfolding cps encode-all
 word-short [] t w = omega arith
-word-short (x ∷ xs) t zero = leb-true _ _ (both (leb (length (cps (x .0))) 6) (words-short xs) t .0)
-word-short (x ∷ xs) t (suc w) = word-short xs (both (leb (length (cps (x .0))) 6) (words-short xs) t .1) w
+word-short (x ∷ xs) t zero = leb-true _ _ (both (leb (length (cps (x .word))) 6) (words-short xs) t .0)
+word-short (x ∷ xs) t (suc w) = word-short xs (both (leb (length (cps (x .word))) 6) (words-short xs) t .1) w
 
-pub kw-op-short : (n w : ℕ) → n ≡ length (cps (entry kw-op-rules w .0)) → n ≤ 6
+pub kw-op-short : (n w : ℕ) → n ≡ length (cps (kw-op-entry w .word)) → n ≤ 6
 unfolding kw-op-rules cps encode-all encode
 kw-op-short n w q = omega (arith, q, word-short kw-op-rules refl w)

@@ -14,14 +14,14 @@ use table_kw_op::kw_op_length;
 use table_kw_op::kw_op_plain_kind;
 ghost use Prim.Native.Nat.{_<_};
 ghost use Rattle.definition.specs.Basics.{Bytes};
-ghost use Rattle.definition.specs.Tables.{kw-op-rules};
-ghost use Rattle.definition.specs.Token.{entry, kw-op, gt, op};
+ghost use Rattle.definition.specs.Tables.{kw-op-entry};
+ghost use Rattle.definition.specs.Token.{kw-op, gt, op};
 ghost use Rattle.reader.specs.Actions.{Chose, Rules, RulesOf};
 
 // A keyword and the operator characters behind it, or the keyword by itself where the cut leaves none of them.
 pub fn kw_op(text: &[u8], at: Cursor, e: usize, word: usize) -> Action
     requires { ⌜ Chose (now text) at e × (word < 9) ⌝ }
-    ensures { λ r. ⌜ ((name : Bytes) → Rules (now (text .entry)) name at e (kw-op (now (text .entry)) (at .st) e (entry kw-op-rules word)) r) ⌝ }
+    ensures { λ r. ⌜ ((name : Bytes) → Rules (now (text .entry)) name at e (kw-op (now (text .entry)) (at .st) e (kw-op-entry word)) r) ⌝ }
 {
     let st = at.st;
     let i = st.offset as usize;

@@ -11,7 +11,7 @@ use Rattle.definition.specs.State.{advance, open-comment}
 use Rattle.definition.specs.Comment as source
 use Rattle.definition.specs.Strings.{string-lit}
 use Rattle.definition.specs.Item.{Step}
-use Rattle.definition.specs.Token.{header}
+use Rattle.definition.specs.Token.{blob-header}
 use Rattle.definition.specs.Blob as blob-source
 use Rattle.definition.specs.declared.State.{State}
 use Rattle.position.specs.Columns.{located}
@@ -78,21 +78,21 @@ module _ {s : Bytes} {at : Cursor} {e : ℕ} (h : Chose s at e) where
         → Reads s name f (string-lit s f (place .st) (here .pos)) r → Reads s name f (string-lit s f (advance (at .st) e) (cur-pos s (at .st))) r
     literal-reads p d = rw (q, p) at d
 
-    -- the header's name stands before
-    module _ (n : ℕ) {hd : Header} (m : Names s (header s (at .st) e n) e hd) where
+    -- the blob-header's name stands before
+    module _ (n : ℕ) {hd : Header} (m : Names s (blob-header s (at .st) e n) e hd) where
       pub before-blob : InBlob s hd (place .st .offset) place
       before-blob =
           let named : hd .to ≤ length s = omega (arith, m .ends, h .onward .within) in
           rw q (record { standing = stands-behind; between = h .between; begun = omega arith; named = named })
 
-      -- what is read with the header is read with the definition's
+      -- what is read with the blob-header is read with the definition's
       pub blob-reads : {name f : Bytes} {r : Read} (read : blob-source.Header → State → Step)
-          → Reads s name f (read (header-of s hd) (place .st)) r → Reads s name f (read (header s (at .st) e n) (advance (at .st) e)) r
+          → Reads s name f (read (header-of s hd) (place .st)) r → Reads s name f (read (blob-header s (at .st) e n) (advance (at .st) e)) r
       blob-reads {name} {f} {r} read d =
           subst (λ (x : blob-source.Header). Reads s name f (read x (advance (at .st) e)) r) (m .is)
           (subst (λ (b : Cursor). Reads s name f (read (header-of s hd) (b .st)) r) q d)
 
-  -- a header has both of the choice's positions
+  -- a blob-header has both of the choice's positions
   pub header-names : {start end : Located} (n : ℕ) → start ≡ located s (at .st) (at .st .offset) → end ≡ located s (at .st) e
-      → Names s (header s (at .st) e n) e (record { from = at .st .offset + n; to = e; pos = end .pos; snap = start .pos })
+      → Names s (blob-header s (at .st) e n) e (record { from = at .st .offset + n; to = e; pos = end .pos; snap = start .pos })
   header-names n p q = record { is = rw (p, q) refl; ends = refl }

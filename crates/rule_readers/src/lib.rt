@@ -25,7 +25,7 @@ ghost use Rattle.definition.specs.State.{advance, open-comment};
 ghost use Rattle.definition.specs.Comment as source;
 ghost use Rattle.definition.specs.Strings.{string-lit};
 ghost use Rattle.definition.specs.Blob as blob-source;
-ghost use Rattle.definition.specs.Token.{header};
+ghost use Rattle.definition.specs.Token.{blob-header};
 ghost use Rattle.read_comment.specs.LineCommentContracts.{ReadsAny};
 ghost use Rattle.reader.specs.Described.{Reads};
 ghost use Rattle.reader.specs.Actions.{Chose};
@@ -67,10 +67,10 @@ pub fn literal(text: &[u8], name: &[u8], classes: &[u8], at: Cursor, e: usize) -
     string_lit(text, name, classes, moved(at, e), here.pos)
 }
 
-// The header of a blob whose name begins after n bytes.
+// The blob-header of a blob whose name begins after n bytes.
 fn header_at(text: &[u8], at: Cursor, e: usize, n: usize) -> Header
     requires { ⌜ Chose (now text) at e × (n ≤ 6) ⌝ }
-    ensures { λ r. ⌜ Names (now (text .entry)) (header (now (text .entry)) (at .st) e n) e r ⌝ }
+    ensures { λ r. ⌜ Names (now (text .entry)) (blob-header (now (text .entry)) (at .st) e n) e r ⌝ }
 {
     let st = at.st;
     let known = at.known;
@@ -89,7 +89,7 @@ fn header_at(text: &[u8], at: Cursor, e: usize, n: usize) -> Header
 // A blob between backticks.
 pub fn fenced(text: &[u8], name: &[u8], at: Cursor, e: usize) -> Read
     requires { ⌜ Chose (now text) at e ⌝ }
-    ensures { λ r. ⌜ ((f : Bytes) → Reads (now (text .entry)) (now (name .entry)) f (blob-source.blob (now (text .entry)) (header (now (text .entry)) (at .st) e 3) (advance (at .st) e)) r) ⌝ }
+    ensures { λ r. ⌜ ((f : Bytes) → Reads (now (text .entry)) (now (name .entry)) f (blob-source.blob (now (text .entry)) (blob-header (now (text .entry)) (at .st) e 3) (advance (at .st) e)) r) ⌝ }
 {
     blob(text, name, header_at(text, at, e, 3), moved(at, e))
 }
@@ -97,7 +97,7 @@ pub fn fenced(text: &[u8], name: &[u8], at: Cursor, e: usize) -> Read
 // The text of another language.
 pub fn language(text: &[u8], name: &[u8], at: Cursor, e: usize) -> Read
     requires { ⌜ Chose (now text) at e ⌝ }
-    ensures { λ r. ⌜ ((f : Bytes) → Reads (now (text .entry)) (now (name .entry)) f (blob-source.use-lang (now (text .entry)) (header (now (text .entry)) (at .st) e 6) (advance (at .st) e)) r) ⌝ }
+    ensures { λ r. ⌜ ((f : Bytes) → Reads (now (text .entry)) (now (name .entry)) f (blob-source.use-lang (now (text .entry)) (blob-header (now (text .entry)) (at .st) e 6) (advance (at .st) e)) r) ⌝ }
 {
     use_lang(text, name, header_at(text, at, e, 6), moved(at, e))
 }

@@ -7,9 +7,9 @@ use lib.ListN.{length, getD, length-append}
 use Rattle.definition.specs.Basics.{Bytes}
 use Rattle.definition.specs.Utf8.{encode, encode-all}
 use Rattle.definition.specs.Text.{lexeme}
-use Rattle.definition.specs.Tables.{Entry, cps, keywords, constructors, uoperators, op-tokens, mixfix-rules}
+use Rattle.definition.specs.Tables.{Entry, cps, keywords, constructors, uoperators, op-tokens, mixfix-rules, entry}
 use Rattle.definition.specs.Numbers.{show}
-use Rattle.definition.specs.Token.{entry, finish}
+use Rattle.definition.specs.Token.{finish}
 use Rattle.definition.specs.declared.Choice.{Choice}
 use Rattle.table_entries.specs.Entries.{entries, texts}
 use Rattle.laws_run.proofs.Moving.{stands-within}

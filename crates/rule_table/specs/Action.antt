@@ -5,13 +5,13 @@ use mathlib.Core.List.{List, [], _∷_}
 use lib.ListN.{getD}
 use Rattle.definition.specs.Basics.{Bytes, again, done}
 use Rattle.definition.specs.Text.{lexeme}
-use Rattle.definition.specs.Tables.{constructors, uoperators, kw-op-rules}
+use Rattle.definition.specs.Tables.{constructors, uoperators, kw-op-rules, entry}
 use Rattle.definition.specs.Position.{cur-pos}
 use Rattle.definition.specs.State.{advance, new-line}
 use Rattle.definition.specs.Comment.{line-comment}
 use Rattle.definition.specs.Strings.{string-lit}
 use Rattle.definition.specs.Blob.{blob, use-lang}
-use Rattle.definition.specs.Token.{Token-turn, entry, finish, finish-word, header, char-lit, kw-op, ident, number, uint8, bad-number, comment-start, gt, op, any}
+use Rattle.definition.specs.Token.{Token-turn, finish, finish-word, blob-header, char-lit, kw-op, ident, number, uint8, bad-number, comment-start, gt, op, any}
 use Rattle.definition.specs.declared.State.{State}
 use Rattle.rule_table.specs.Keys.{at-key}
 use Rattle.rule_table.specs.Plain.{place-kinds, plain-kind, plain-text}
@@ -43,8 +43,8 @@ rule-list s name f st k e w =
     ∷ (6, char-lit s st e)
     ∷ (5, again (new-line (advance st e)))
     ∷ (4, again (advance st e))
-    ∷ (3, done (use-lang s (header s st e 6) (advance st e)))
-    ∷ (2, done (blob s (header s st e 3) (advance st e)))
+    ∷ (3, done (use-lang s (blob-header s st e 6) (advance st e)))
+    ∷ (2, done (blob s (blob-header s st e 3) (advance st e)))
     ∷ (1, finish s st e (plain-kind k w) (plain-text s name st k e w))
     ∷ []
 

@@ -6,10 +6,9 @@ use mathlib.Core.List.{List, [], _∷_, _++_}
 use lib.ListN.{getD}
 use Rattle.definition.specs.Basics.{Bytes}
 use Rattle.definition.specs.Text.{lexeme}
-use Rattle.definition.specs.Tables.{cps, early-literals, op-tokens, mixfix-rules}
+use Rattle.definition.specs.Tables.{cps, early-literals, op-tokens, mixfix-rules, entry}
 use Rattle.definition.specs.Kinds.{kind}
 use Rattle.definition.specs.Numbers.{show}
-use Rattle.definition.specs.Token.{entry}
 use Rattle.definition.specs.declared.State.{State}
 use Rattle.rule_table.specs.Keys.{at-key}
 use Rattle.reader.specs.Described.{Sized, Describes}

@@ -13,8 +13,8 @@ use Rattle.definition.specs.Basics.{Bytes, same}
 use Rattle.definition.specs.Utf8.{encode, encode-all}
 use Rattle.definition.specs.Text.{lexeme}
 use Rattle.definition.specs.Kinds.{kind}
-use Rattle.definition.specs.Tables.{Entry, cps, keywords, constructors, uoperators, op-tokens, mixfix-rules}
-use Rattle.definition.specs.Token.{entry, finish, finish-entry, finish-word, ident, starts-with, reserved-prefix}
+use Rattle.definition.specs.Tables.{Entry, cps, keywords, constructors, uoperators, op-tokens, mixfix-rules, entry, no-entry}
+use Rattle.definition.specs.Token.{finish, finish-entry, finish-word, ident, starts-with, reserved-prefix}
 use Rattle.definition.specs.declared.State.{State}
 use Rattle.lemmas.proofs.Cases.{by-test}
 use Rattle.table_words.specs.Words.{spelled}
@@ -51,11 +51,11 @@ pub text-describes : {s name f : Bytes} {k : ℕ} → k < 181 → Describes s na
 text-describes h = record { is = refl; long = refl; inside = h }
 
 -- a text but the last is that of its entry
-pub entry-text : (k : ℕ) → k < 180 → getD texts k [] ≡ cps (entry entries k .2)
+pub entry-text : (k : ℕ) → k < 180 → getD texts k [] ≡ cps (entry entries k .text)
 unfolding texts entries keywords constructors uoperators op-tokens mixfix-rules cps encode-all
 entry-text k h =
-    List·getD-append (map (λ (e : Entry). cps (e .2)) entries) (cps "<" ∷ []) [] k h
-    ∙ List·getD-map (λ (e : Entry). cps (e .2)) entries k ("", "", "")
+    List·getD-append (map (λ (e : Entry). cps (e .text)) entries) (cps "<" ∷ []) [] k h
+    ∙ List·getD-map (λ (e : Entry). cps (e .text)) entries k no-entry
 
 -- ---- tables among the entries
 
@@ -70,8 +70,8 @@ pub stored-entry : {n : ℕ} {table : List Entry} → Stored n table → (j : �
 stored-entry {n} {table} h j l =
     ap (λ (es : List Entry). entry es (n + j)) (h .all)
     ∙ ap (λ (m : ℕ). entry (h .front ++ (table ++ h .back)) (m + j)) (sym (h .begins))
-    ∙ getD-append-add (h .front) (table ++ h .back) j ("", "", "")
-    ∙ List·getD-append table (h .back) ("", "", "") j l
+    ∙ getD-append-add (h .front) (table ++ h .back) j no-entry
+    ∙ List·getD-append table (h .back) no-entry j l
 
 -- the five tables
 pub keywords-stored : Stored 0 keywords
@@ -133,7 +133,7 @@ module _ (s : Bytes) (st : State) (e : ℕ) where
       go : (w : Word) → Between n (length (spelled table)) w
           → elim (entry-at n table w) [ some y ↦ finish-entry s st e y | none ↦ finish s st e (kind x) (lexeme s (st .offset) e) ] ≡ worded s st e w (kind x)
       go (At w) b =
-          let m : length (spelled table) ≡ length table = length-map table (λ (y : Entry). cps (y .0)) in
+          let m : length (spelled table) ≡ length table = length-map table (λ (y : Entry). cps (y .word)) in
           let q : n + (w - n) ≡ w = omega (arith, b .from) in
           let p : entry entries w ≡ entry table (w - n) =
           ap (λ (k : ℕ). entry entries k) (sym q) ∙ stored-entry h (w - n) (omega (arith, b .from, b .to)) in
@@ -160,7 +160,7 @@ module _ {s : Bytes} {at : Cursor} {e : ℕ} (h : Chose s at e) where
         (table-turn s st e n table x stored l ∙ ap (λ (m : ℕ). worded s st e (place n id (spelled table)) m) (sym p) ∙ ap (λ (w : Word). worded s st e w k) (sym found-at)) d
 
     -- a word of the tables, or none
-    pub word-rules : (word : Word) (k given kd : ℕ) → k < 119 → word ≡ At k → kd ≡ kind (entry entries k .1)
+    pub word-rules : (word : Word) (k given kd : ℕ) → k < 119 → word ≡ At k → kd ≡ kind (entry entries k .kind)
         → Rules s name at e (worded s st e word given) (Token kd (st .offset) e (Text k))
     word-rules word k given kd l q p =
         rw q (token-rules (getD texts k []) (λ f. text-describes (omega arith)) (spans h (text-sized (omega arith))) (rw p refl))

@@ -5,7 +5,8 @@ use lib.ListN.{getD}
 use Rattle.definition.specs.Basics.{Bytes}
 use Rattle.definition.specs.Text.{lexeme}
 use Rattle.definition.specs.Kinds.{kind}
-use Rattle.definition.specs.Token.{Token-turn, entry, finish}
+use Rattle.definition.specs.Tables.{entry}
+use Rattle.definition.specs.Token.{Token-turn, finish}
 use Rattle.definition.specs.declared.State.{State}
 use Rattle.table_keywords.specs.declared.Word.{Word}
 use Rattle.table_keywords.specs.declared.Word.the-variants.{At, Nowhere}
@@ -13,7 +14,7 @@ use Rattle.table_entries.specs.Entries.{entries, texts}
 
 -- the token of a word of the tables, or the lexeme with a kind
 abbrev pub worded : Bytes → State → ℕ → Word → ℕ → Token-turn
-worded s st e (At w) k = finish s st e (kind (entry entries w .1)) (getD texts w [])
+worded s st e (At w) k = finish s st e (kind (entry entries w .kind)) (getD texts w [])
 worded s st e Nowhere k = finish s st e k (lexeme s (st .offset) e)
 
 -- a word of the tables in which lexemes are looked up

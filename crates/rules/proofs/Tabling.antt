@@ -9,7 +9,7 @@ use lib.Dec.{ltb, leb, eqb}
 use lib.ListN.{length}
 use Rattle.definition.specs.Basics.{Bytes, ch}
 use Rattle.definition.specs.Text.{char-has, star}
-use Rattle.definition.specs.Tables.{Entry, cps, early-literals, kw-op-rules, op-tokens, mixfix-rules}
+use Rattle.definition.specs.Tables.{cps, early-literals, kw-op-rules, op-tokens, mixfix-rules, words-of, kw-op-words}
 use Rattle.definition.specs.Chars.{ascii-limit, is-digit, is-anywhite, is-op-char, is-symbolchar, is-uoperator}
 use Rattle.definition.specs.Matchers.{_then_, later, max-list, only, one, match-lit, plus, match-newline, match-ident, match-constructor, match-char-lit, any-integer-ends, match-int-suffix, match-int-usuffix, match-real, match-bad-number, match-backtick-ident}
 use Rattle.definition.specs.Select.{none-at, keep, found, try-words, try-all, one-of-then-symbols, lit-then-symbols, places, select}
@@ -46,12 +46,12 @@ module _ (i : ℕ) where
   keep-tabled {best} {new} b n = by-if Tabled (ltb (best .end) (new .end)) (λ _. n) (λ _. b)
 
   -- the best of all words of a table
-  words-tabled : (k : ℕ) (m : Bytes → Match) (w : ℕ) (es : List Entry) → k < 51 → w + length es ≤ table-size k → {best : Choice}
+  words-tabled : (k : ℕ) (m : Bytes → Match) (w : ℕ) (es : List String) → k < 51 → w + length es ≤ table-size k → {best : Choice}
       → Tabled best → Tabled (try-words i k m w es best)
   unfolding try-words
   words-tabled k m w [] h l b = b
   words-tabled k m w (e ∷ es) h l b =
-      words-tabled k m (suc w) es h (omega arith) (keep-tabled b (found-tabled k w (m (cps (e .0))) h (omega arith)))
+      words-tabled k m (suc w) es h (omega arith) (keep-tabled b (found-tabled k w (m (cps e)) h (omega arith)))
 
   -- the best of all places
   all-tabled : {cs : List Choice} → Each Tabled cs → {best : Choice} → Tabled best → Tabled (try-all cs best)
@@ -64,7 +64,7 @@ module _ (i : ℕ) where
   single k m h = found-tabled k 0 m h (some-word k)
 
   -- a table
-  table : (k : ℕ) (m : Bytes → Match) (es : List Entry) → k < 51 → length es ≤ table-size k → Tabled (try-words i k m 0 es (none-at i))
+  table : (k : ℕ) (m : Bytes → Match) (es : List String) → k < 51 → length es ≤ table-size k → Tabled (try-words i k m 0 es (none-at i))
   table k m es h l = words-tabled k m 0 es h (omega arith) none-tabled
 
   module _ (s f : Bytes) where
@@ -78,7 +78,7 @@ module _ (i : ℕ) where
         let op-char : Bool = char-has is-op-char s i in
         let lit : String → Match = λ word. match-lit s (cps word) i in
         let when : Bool → Match → Match = λ t m. only t m in
-        table 1 (λ w. match-lit s w i) early-literals (omega arith) (omega arith)
+        table 1 (λ w. match-lit s w i) (words-of early-literals) (omega arith) (omega arith)
         ⨾ single 2 (when (is "`") (lit "```" then match-ident s f)) (omega arith)
         ⨾ single 3 (when (is "#") (lit "#lang-" then match-ident s f)) (omega arith)
         ⨾ single 4 (when (is "_") (lit "__SOURCE_FILE__")) (omega arith)
@@ -89,7 +89,7 @@ module _ (i : ℕ) where
         ⨾ single 9 (when (is "'") (match-char-lit s i false)) (omega arith)
         ⨾ single 10 (when (is "'") (match-char-lit s i true)) (omega arith)
         ⨾ single 11 (when (is "`") (To (i + 1))) (omega arith)
-        ⨾ table 12 (λ w. match-lit s w i then plus is-op-char s) kw-op-rules (omega arith) (omega arith)
+        ⨾ table 12 (λ w. match-lit s w i then plus is-op-char s) kw-op-words (omega arith) (omega arith)
         ⨾ single 13 (when (is ";") (lit ";;")) (omega arith)
         ⨾ single 14 (match-ident s f i) (omega arith)
         ⨾ single 15 (match-constructor s f i) (omega arith)
@@ -113,7 +113,7 @@ module _ (i : ℕ) where
         ⨾ single 33 (when (is "<") (lit "<|")) (omega arith)
         ⨾ single 34 (when (is "|") (lit "|>")) (omega arith)
         ⨾ single 35 (when (is ".") (lit "..")) (omega arith)
-        ⨾ table 36 (λ w. match-lit s w i) op-tokens (omega arith) (omega arith)
+        ⨾ table 36 (λ w. match-lit s w i) (words-of op-tokens) (omega arith) (omega arith)
         ⨾ single 37 (when op-char (when (is "<") (To (i + 1)))) (omega arith)
         ⨾ single 38 (when op-char (when (is ">") (To (star is-symbolchar s (i + 1))))) (omega arith)
         ⨾ single 39 (when op-char (lit-then-symbols s i "**")) (omega arith)
@@ -127,7 +127,7 @@ module _ (i : ℕ) where
         ⨾ single 47 (when op-char (one-of-then-symbols s i "+-")) (omega arith)
         ⨾ single 48 (when op-char (one-of-then-symbols s i "*/%")) (omega arith)
         ⨾ single 49 (when beyond-ascii (one (is-uoperator f) s i)) (omega arith)
-        ⨾ table 50 (λ w. match-lit s w i) mixfix-rules (omega arith) (omega arith)
+        ⨾ table 50 (λ w. match-lit s w i) (words-of mixfix-rules) (omega arith) (omega arith)
         ⨾ none-left
 
     -- the choice

@@ -7,7 +7,7 @@ use lib.Dec.{eqb}
 use Rattle.definition.specs.Basics.{Bytes}
 use Rattle.definition.specs.Text.{star}
 use Rattle.definition.specs.Chars.{is-op-char, is-symbolchar, is-ident-start, is-constructor-start, is-ident-char, is-anywhite, is-newline-char, is-uoperator}
-use Rattle.definition.specs.Tables.{cps, early-literals, kw-op-rules, op-tokens, mixfix-rules}
+use Rattle.definition.specs.Tables.{cps, early-literals, kw-op-rules, op-tokens, mixfix-rules, words-of, kw-op-words}
 use Rattle.definition.specs.Matchers.{
   _then_,
   later,
@@ -32,16 +32,16 @@ use Rattle.definition.specs.declared.Match.the-variants.{To}
 -- ---- tables and parts
 
 abbrev pub early : Bytes → ℕ → Choice
-early s i = try-words i 1 (λ w. match-lit s w i) 0 early-literals (none-at i)
+early s i = try-words i 1 (λ w. match-lit s w i) 0 (words-of early-literals) (none-at i)
 
 abbrev pub keyword : Bytes → ℕ → Choice
-keyword s i = try-words i 12 (λ w. match-lit s w i then plus is-op-char s) 0 kw-op-rules (none-at i)
+keyword s i = try-words i 12 (λ w. match-lit s w i then plus is-op-char s) 0 kw-op-words (none-at i)
 
 abbrev pub token : Bytes → ℕ → Choice
-token s i = try-words i 36 (λ w. match-lit s w i) 0 op-tokens (none-at i)
+token s i = try-words i 36 (λ w. match-lit s w i) 0 (words-of op-tokens) (none-at i)
 
 abbrev pub mixfix : Bytes → ℕ → Choice
-mixfix s i = try-words i 50 (λ w. match-lit s w i) 0 mixfix-rules (none-at i)
+mixfix s i = try-words i 50 (λ w. match-lit s w i) 0 (words-of mixfix-rules) (none-at i)
 
 -- the character at i and the symbol characters behind it
 abbrev pub symbols-behind : Bytes → ℕ → Match

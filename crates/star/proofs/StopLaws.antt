@@ -9,9 +9,8 @@ use denote.Enum.Declared.{tagOf}
 use lib.Dec.{eqb}
 use Rattle.definition.specs.Basics.{Bytes, ch}
 use Rattle.definition.specs.Utf8.{sequence-at}
-use Rattle.definition.specs.Text.{with-char, star}
+use Rattle.definition.specs.Text.{with-char, star, run-end, after}
 use Rattle.definition.specs.Chars.{is-newline-char}
-use Rattle.definition.specs.Comment.{run-end, after}
 use Rattle.definition.specs.declared.Sequence.{Sequence}
 use Rattle.definition.specs.declared.Sequence.the-variants.{Char}
 use Rattle.definition.proofs.Sequence.{the-type}

@@ -8,9 +8,8 @@ use definition::Match;
 use definition::Sequence;
 use utf8::sequence_at;
 ghost use mathlib.Core.Path.{_≡_};
-ghost use Rattle.definition.specs.Text.{star};
+ghost use Rattle.definition.specs.Text.{star, after};
 ghost use Rattle.definition.specs.Matchers.{one};
-ghost use Rattle.definition.specs.Comment.{after};
 ghost use Rattle.star.specs.Stops.{stops, goes-on};
 
 // Whether a character ends a run: it is a or b, or a line's end.

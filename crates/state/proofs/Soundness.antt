@@ -5,7 +5,7 @@ use mathlib.Core.Bool.{true, _&&_}
 use lib.Dec.{leb, eqb}
 use borrow.Author.Tests.{le-leb, leb-true, eq-eqb, eqb-true, eqb-false}
 use Rattle.definition.specs.Basics.{Bytes}
-use Rattle.definition.specs.State.{at-character, place-sound, counts-sound, depth-sound, comment-sound, sound}
+use Rattle.definition.specs.State.{at-character, offsets-sound, counts-sound, depth-sound, comment-sound, sound}
 use Rattle.definition.specs.declared.State.{State}
 use Rattle.lemmas.proofs.Cases.{by-if, both, both-true}
 use Rattle.state.specs.Sound.{Sound}
@@ -32,9 +32,9 @@ module _ (st : State) where
 
 -- the test's clauses, each as a fact
 pub sound-means : (s : Bytes) (st : State) → sound s st ≡ true → Sound s st
-unfolding sound place-sound counts-sound comment-sound
+unfolding sound offsets-sound counts-sound comment-sound
 sound-means s st t =
-    let p = both (place-sound s st) (counts-sound st && (depth-sound st && comment-sound st)) t in
+    let p = both (offsets-sound s st) (counts-sound st && (depth-sound st && comment-sound st)) t in
     let q = both (at-character s (st .offset)) (at-character s (st .bol) && leb (st .bol) (st .offset)) (p .0) in
     let b = both (at-character s (st .bol)) (leb (st .bol) (st .offset)) (q .1) in
     let r = both (counts-sound st) (depth-sound st && comment-sound st) (p .1) in
@@ -60,7 +60,7 @@ sound-means s st t =
 
 -- A state that is sound in every clause passes the test.
 pub sound-is : (s : Bytes) (st : State) → Sound s st → sound s st ≡ true
-unfolding sound place-sound counts-sound depth-sound comment-sound
+unfolding sound offsets-sound counts-sound depth-sound comment-sound
 sound-is s st m =
     both-true _ _
     (both-true _ _ (m .offset) (both-true _ _ (m .bol) (le-leb _ _ (m .order))))

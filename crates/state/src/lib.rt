@@ -1,7 +1,7 @@
 // `start`, and whether a saved state is sound. Proved: both are the definition's, for every number. Assumed: nothing but what each
 // function's `requires` says.
 ghost use mathlib.Core.Path.{_≡_};
-ghost use Rattle.definition.specs.State.{at-character, place-sound, counts-sound, depth-sound, comment-sound, sound, start, started};
+ghost use Rattle.definition.specs.State.{at-character, offsets-sound, counts-sound, depth-sound, comment-sound, sound, start, started};
 use definition::Pos;
 use definition::StartAnswer;
 use definition::State;
@@ -63,8 +63,8 @@ fn at_character(text: &[u8], i: u32) -> bool
 }
 
 // The offsets stand on characters, and the line start isn't past the offset.
-fn place_sound(text: &[u8], st: State) -> bool
-    ensures { λ r. ⌜ r ≡ place-sound (now (text .entry)) st ⌝ }
+fn offsets_sound(text: &[u8], st: State) -> bool
+    ensures { λ r. ⌜ r ≡ offsets-sound (now (text .entry)) st ⌝ }
 {
     if at_character(text, st.offset) {
         if at_character(text, st.bol) {
@@ -120,7 +120,7 @@ fn comment_sound(st: State) -> bool
 pub fn sound(text: &[u8], st: State) -> bool
     ensures { λ r. ⌜ r ≡ sound (now (text .entry)) st ⌝ }
 {
-    if place_sound(text, st) {
+    if offsets_sound(text, st) {
         if counts_sound(st) {
             if depth_sound(st) {
                 return comment_sound(st);

@@ -4,7 +4,7 @@ use mathlib.Core.Path.{_≡_, refl}
 use mathlib.Core.Bool.{true}
 use mathlib.Core.List.{List, []}
 use Rattle.definition.specs.Utf8.{encode, encode-all}
-use Rattle.definition.specs.Tables.{cps, early-literals}
+use Rattle.definition.specs.Tables.{cps, early-literals, words-of}
 use Rattle.table_words.specs.Rows.{Row, numbered, only-rows}
 use Rattle.table_words.proofs.RowLaws.{is-short, all-begin}
 use Rattle.table_words.proofs.TableLaws.{all-short}
@@ -12,7 +12,7 @@ use Rattle.table_early.specs.Pairs.{early-pair}
 
 -- the rows of the early literals
 abbrev pub early : List Row
-early = numbered 0 early-literals
+early = numbered 0 (words-of early-literals)
 
 -- Every word fits its row.
 pub early-short : all-short 20 early ≡ true

@@ -13,10 +13,9 @@ ghost use mathlib.Core.List.{[]};
 ghost use Prim.Native.Nat.{_<_};
 ghost use lib.ListN.{getD};
 ghost use Rattle.definition.specs.Kinds.{kind};
-ghost use Rattle.definition.specs.Tables.{early-literals};
+ghost use Rattle.definition.specs.Tables.{early-literals, entry, words-of};
 ghost use Rattle.definition.specs.Matchers.{match-lit};
 ghost use Rattle.definition.specs.Select.{none-at, try-words};
-ghost use Rattle.definition.specs.Token.{entry};
 ghost use Rattle.table_words.specs.Rows.{numbered, padded};
 ghost use Rattle.table_early.specs.Pairs.{early-pair};
 
@@ -62,7 +61,7 @@ const EARLY_KINDS: [u32; 15] = [
 // Byte j of row k of the early literals.
 fn early_byte(k: usize, j: usize) -> u8
     requires { ⌜ (k < 15) × (j < 20) ⌝ }
-    ensures { λ r. ⌜ r ≡ getD (getD (padded 20 (numbered 0 early-literals)) k []) j 0 ⌝ }
+    ensures { λ r. ⌜ r ≡ getD (getD (padded 20 (numbered 0 (words-of early-literals))) k []) j 0 ⌝ }
 {
     EARLY[k][j]
 }
@@ -85,7 +84,7 @@ fn early_begins(a: u8, b: u8) -> bool
 
 // The longest of the early literals at i, each tried in turn.
 fn longest_early(text: &[u8], i: usize) -> Choice
-    ensures { λ r. ⌜ r ≡ try-words i 1 (λ w. match-lit (now (text .entry)) w i) 0 early-literals (none-at i) ⌝ }
+    ensures { λ r. ⌜ r ≡ try-words i 1 (λ w. match-lit (now (text .entry)) w i) 0 (words-of early-literals) (none-at i) ⌝ }
 {
     let mut best = nothing(i);
     let mut next = 0;
@@ -116,7 +115,7 @@ fn longest_early(text: &[u8], i: usize) -> Choice
 
 // The longest of the early literals at i. Few bytes begin one, so the table is built only where two bytes may.
 pub fn early_literal(text: &[u8], i: usize) -> Choice
-    ensures { λ r. ⌜ r ≡ try-words i 1 (λ w. match-lit (now (text .entry)) w i) 0 early-literals (none-at i) ⌝ }
+    ensures { λ r. ⌜ r ≡ try-words i 1 (λ w. match-lit (now (text .entry)) w i) 0 (words-of early-literals) (none-at i) ⌝ }
 {
     if text.len() <= i {
         return nothing(i);
@@ -132,7 +131,7 @@ pub fn early_literal(text: &[u8], i: usize) -> Choice
 
 pub fn early_kind(word: usize) -> u32
     requires { ⌜ word < 15 ⌝ }
-    ensures { λ r. ⌜ r ≡ kind (entry early-literals word .1) ⌝ }
+    ensures { λ r. ⌜ r ≡ kind (entry early-literals word .kind) ⌝ }
 {
     EARLY_KINDS[word]
 }

@@ -10,7 +10,7 @@ entries = keywords ++ (constructors ++ (uoperators ++ (op-tokens ++ mixfix-rules
 
 -- the entries' texts, and that of the token `<`
 unfoldable pub texts : List Bytes
-texts = map (λ (e : Entry). cps (e .2)) entries ++ (cps "<" ∷ [])
+texts = map (λ (e : Entry). cps (e .text)) entries ++ (cps "<" ∷ [])
 
 -- where each text begins if the first begins at n
 abbrev pub starts : ℕ → List Bytes → List ℕ

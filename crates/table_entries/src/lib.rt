@@ -9,7 +9,7 @@ ghost use mathlib.Core.List.{[]};
 ghost use Prim.Native.Nat.{_<_, _≤_};
 ghost use lib.ListN.{length, getD};
 ghost use Rattle.definition.specs.Kinds.{kind};
-ghost use Rattle.definition.specs.Token.{entry};
+ghost use Rattle.definition.specs.Tables.{entry};
 ghost use Rattle.lemmas.specs.Over.{over};
 ghost use Rattle.table_entries.specs.Entries.{entries, texts, starts};
 
@@ -143,7 +143,7 @@ fn kind_of_byte(x: u8) -> u32
 // The kind of entry k: nearly all kinds run along with the places.
 pub fn kind_at(k: usize) -> u32
     requires { ⌜ k < 180 ⌝ }
-    ensures { λ r. ⌜ r ≡ kind (entry entries k .1) ⌝ }
+    ensures { λ r. ⌜ r ≡ kind (entry entries k .kind) ⌝ }
 {
     if k < 21 {
         return k as u32 + 1;

@@ -5,8 +5,7 @@ use mathlib.Core.List.{List, [], _∷_}
 use mathlib.Core.Option.{Option, none, some}
 use native.Mathlib.Omega.{arith}
 use Rattle.definition.specs.Basics.{Bytes, same}
-use Rattle.definition.specs.Tables.{Entry, cps, find}
-use Rattle.definition.specs.Token.{entry}
+use Rattle.definition.specs.Tables.{Entry, cps, find, entry}
 use Rattle.lemmas.proofs.Cases.{by-outcome}
 use Rattle.table_words.specs.Words.{spelled}
 use Rattle.table_keywords.specs.declared.Word.{Word}
@@ -28,7 +27,7 @@ later-entry n id e table = go table (suc n) (omega arith)
     go [] m h = refl
     go (x ∷ t) m h =
         let z : m - n ≡ suc (m - suc n) = omega arith in
-        by-outcome (same (cps (x .0)) id)
+        by-outcome (same (cps (x .word)) id)
         (λ q. rw (place, q, z))
         (λ q. rw (place, q) (go t (suc m) (omega arith)))
 
@@ -38,6 +37,6 @@ unfolding find place
 found n id [] = refl
 found n id (e ∷ table) =
     let z : n - n ≡ 0 = omega arith in
-    by-outcome (same (cps (e .0)) id)
+    by-outcome (same (cps (e .word)) id)
     (λ q. rw (find, place, q, z))
     (λ q. rw (find, place, q) (found (suc n) id table ∙ later-entry n id e table))

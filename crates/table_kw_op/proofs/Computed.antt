@@ -7,14 +7,14 @@ use mathlib.Core.List.{List, [], _∷_, map}
 use lib.ListN.{length, getD}
 use Rattle.definition.specs.Utf8.{encode, encode-all}
 use Rattle.definition.specs.Chars.{count-up}
-use Rattle.definition.specs.Tables.{cps, kw-op-rules}
+use Rattle.definition.specs.Tables.{cps, kw-op-rules, kw-op-words}
 use Rattle.table_words.specs.Rows.{Row, numbered, only-rows}
 use Rattle.table_words.proofs.RowLaws.{no-row, word-at, is-empty, touches}
 use Rattle.table_words.proofs.TableLaws.{all-short, same-each}
 
 -- the rows of the keyword operators
 abbrev pub kw-ops : List Row
-kw-ops = numbered 0 kw-op-rules
+kw-ops = numbered 0 kw-op-words
 
 -- Every word fits its row.
 pub kw-short : all-short 6 kw-ops ≡ true
@@ -32,7 +32,7 @@ pub kw-count : length kw-ops ≡ 9
 unfolding kw-op-rules
 kw-count = refl
 
-pub kw-entries : length kw-op-rules ≡ 9
+pub kw-entries : length kw-op-words ≡ 9
 unfolding kw-op-rules
 kw-entries = refl
 

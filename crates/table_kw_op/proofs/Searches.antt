@@ -12,7 +12,7 @@ use borrow.Author.Tests.{not-false, eqb-true}
 use Rattle.definition.specs.Basics.{Bytes}
 use Rattle.definition.specs.Text.{byte-has}
 use Rattle.definition.specs.Chars.{is-op-char}
-use Rattle.definition.specs.Tables.{kw-op-rules}
+use Rattle.definition.specs.Tables.{kw-op-words}
 use Rattle.definition.specs.Matchers.{_then_, match-lit, plus}
 use Rattle.definition.specs.Select.{none-at, try-words}
 use Rattle.definition.specs.declared.Choice.{Choice}
@@ -54,11 +54,11 @@ module _ (s : Bytes) (i : ℕ) where
 
   -- what the definition gives
   abbrev pub kw-choice : Choice
-  kw-choice = try-words i 12 (λ w. match-lit s w i then plus is-op-char s) 0 kw-op-rules (none-at i)
+  kw-choice = try-words i 12 (λ w. match-lit s w i then plus is-op-char s) 0 kw-op-words (none-at i)
 
   -- Where no word fits nothing is chosen.
   pub kw-none : {k : ℕ} → k ≡ first-fit s i kw-ops → 9 ≤ k → kw-choice ≡ none-at i
-  kw-none e h = words-rows i 12 kw-match 0 kw-op-rules (none-at i) ∙ fit-none s i 12 kw-match kw-nothing kw-ops (omega (arith, kw-count))
+  kw-none e h = words-rows i 12 kw-match 0 kw-op-words (none-at i) ∙ fit-none s i 12 kw-match kw-nothing kw-ops (omega (arith, kw-count))
 
   module _ {k : ℕ} (e : k ≡ first-fit s i kw-ops) (h : k < 9) where
     -- The word of the first that fits is there,
@@ -68,7 +68,7 @@ module _ (s : Bytes) (i : ℕ) where
     -- and no other word is there.
     kw-alone : kw-choice ≡ try-rows i 12 kw-match (getD kw-ops k no-row ∷ []) (none-at i)
     kw-alone =
-        words-rows i 12 kw-match 0 kw-op-rules (none-at i)
+        words-rows i 12 kw-match 0 kw-op-words (none-at i)
         ∙ rows-left i 12 kw-match (λ r. touches (word-at kw-ops k) (r .1)) (λ r t. kw-nothing (r .1) (apart s (word-at kw-ops k) (r .1) i kw-there t)) kw-ops (none-at i) (omega arith)
         ∙ ap (λ (rs : List Row). try-rows i 12 kw-match rs (none-at i)) (kw-apart k h)
 
@@ -82,18 +82,18 @@ module _ (s : Bytes) (i : ℕ) where
         let past = plus-ends s is-op-char (i + n) .at p .past in
         kw-alone
         ∙ row-alone i 12 kw-match (getD kw-ops k no-row) (rw kw-there (rw (← q) p)) (omega (arith, past))
-        ∙ chosen (own-number kw-op-rules k (omega (arith, kw-entries)))
+        ∙ chosen (own-number kw-op-words k (omega (arith, kw-entries)))
       where
         chosen : {x y : ℕ} → x ≡ y → _≡_ {A = Choice} (record { place = 12; end = e; word = y }) (record { place = 12; end = e; word = x })
         chosen z = rw z
 
   -- Past the end no word is.
   pub kw-past : length s ≤ i → kw-choice ≡ none-at i
-  kw-past h = all-left i 12 kw-match (λ r. is-empty (r .1)) (λ r t. kw-nothing (r .1) (past-end s i h (r .1) t)) kw-op-rules kw-long
+  kw-past h = all-left i 12 kw-match (λ r. is-empty (r .1)) (λ r t. kw-nothing (r .1) (past-end s i h (r .1) t)) kw-op-words kw-long
 
   -- Where each word that begins with the text's byte would end at i + n, and no operator character stands there, nothing is chosen.
   pub kw-reach-none : {n : ℕ} → i < length s → Reach (getD s i 0) n → n ≢ 0 → byte-has is-op-char s (i + n) ≡ false → kw-choice ≡ none-at i
-  kw-reach-none {n} h r z e = all-left i 12 kw-match (λ r. starts-with (getD s i 0) (r .1) && not (eqb (length (r .1)) n)) (λ r. missing (r .1)) kw-op-rules (r .each z)
+  kw-reach-none {n} h r z e = all-left i 12 kw-match (λ r. starts-with (getD s i 0) (r .1) && not (eqb (length (r .1)) n)) (λ r. missing (r .1)) kw-op-words (r .each z)
     where
       -- A word of n bytes has no operator character behind it,
       short : (w : Bytes) → length w ≡ n → kw-match w ≡ Nothing

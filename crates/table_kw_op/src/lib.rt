@@ -16,10 +16,9 @@ ghost use Prim.Native.Nat.{_<_};
 ghost use lib.ListN.{length, getD};
 ghost use Rattle.definition.specs.Chars.{ascii-table, op-char-cps, is-op-char};
 ghost use Rattle.definition.specs.Kinds.{kind};
-ghost use Rattle.definition.specs.Tables.{cps, kw-op-rules};
+ghost use Rattle.definition.specs.Tables.{cps, kw-op-words, kw-op-entry};
 ghost use Rattle.definition.specs.Matchers.{_then_, match-lit, plus};
 ghost use Rattle.definition.specs.Select.{none-at, try-words};
-ghost use Rattle.definition.specs.Token.{entry};
 ghost use Rattle.table_words.specs.Rows.{numbered, padded, first-fit};
 ghost use Rattle.table_kw_op.specs.KeywordReach.{Reach};
 
@@ -65,14 +64,14 @@ const KW_OP_KINDS: [u32; 9] = [
 // Byte j of row k of the keyword operators.
 fn kw_op_byte(k: usize, j: usize) -> u8
     requires { ⌜ (k < 9) × (j < 6) ⌝ }
-    ensures { λ r. ⌜ r ≡ getD (getD (padded 6 (numbered 0 kw-op-rules)) k []) j 0 ⌝ }
+    ensures { λ r. ⌜ r ≡ getD (getD (padded 6 (numbered 0 kw-op-words)) k []) j 0 ⌝ }
 {
     KW_OPS[k][j]
 }
 
 // The number of the first keyword-operator word that stands at i, or 9 where none does. No such word begins another.
 pub fn kw_op_word(text: &[u8], i: usize) -> usize
-    ensures { λ r. ⌜ r ≡ first-fit (now (text .entry)) i (numbered 0 kw-op-rules) ⌝ }
+    ensures { λ r. ⌜ r ≡ first-fit (now (text .entry)) i (numbered 0 kw-op-words) ⌝ }
 {
     let mut k = 0;
     'words: while k < 9 {
@@ -114,7 +113,7 @@ fn kw_op_reach(a: u8) -> usize
 // built.
 pub fn kw_op(text: &[u8], table: &[bool; 128], i: usize) -> Choice
     requires { ⌜ now table ≡ ascii-table op-char-cps ⌝ }
-    ensures { λ r. ⌜ r ≡ try-words i 12 (λ w. match-lit (now (text .entry)) w i then plus is-op-char (now (text .entry))) 0 kw-op-rules (none-at i) ⌝ }
+    ensures { λ r. ⌜ r ≡ try-words i 12 (λ w. match-lit (now (text .entry)) w i then plus is-op-char (now (text .entry))) 0 kw-op-words (none-at i) ⌝ }
 {
     if text.len() <= i {
         return nothing(i);
@@ -142,7 +141,7 @@ pub fn kw_op(text: &[u8], table: &[bool; 128], i: usize) -> Choice
 // How long the word is.
 pub fn kw_op_length(word: usize) -> usize
     requires { ⌜ word < 9 ⌝ }
-    ensures { λ r. ⌜ r ≡ length (cps (entry kw-op-rules word .0)) ⌝ }
+    ensures { λ r. ⌜ r ≡ length (cps (kw-op-entry word .word)) ⌝ }
 {
     KW_OP_LENGTHS[word]
 }
@@ -150,7 +149,7 @@ pub fn kw_op_length(word: usize) -> usize
 // The kind of the word by itself.
 pub fn kw_op_plain_kind(word: usize) -> u32
     requires { ⌜ word < 9 ⌝ }
-    ensures { λ r. ⌜ r ≡ kind (entry kw-op-rules word .1) ⌝ }
+    ensures { λ r. ⌜ r ≡ kind (kw-op-entry word .kind) ⌝ }
 {
     KW_OP_PLAIN_KINDS[word]
 }
@@ -158,7 +157,7 @@ pub fn kw_op_plain_kind(word: usize) -> u32
 // The kind of the word with operator characters behind it.
 pub fn kw_op_kind(word: usize) -> u32
     requires { ⌜ word < 9 ⌝ }
-    ensures { λ r. ⌜ r ≡ kind (entry kw-op-rules word .2) ⌝ }
+    ensures { λ r. ⌜ r ≡ kind (kw-op-entry word .op-kind) ⌝ }
 {
     KW_OP_KINDS[word]
 }

@@ -6,14 +6,14 @@ use mathlib.Core.List.{List, [], _∷_, map}
 use Rattle.definition.specs.Basics.{codes, mem-cp, if_then_else_}
 use Rattle.definition.specs.Utf8.{encode, encode-all}
 use Rattle.definition.specs.Chars.{count-up}
-use Rattle.definition.specs.Tables.{cps, op-tokens}
+use Rattle.definition.specs.Tables.{cps, op-tokens, words-of}
 use Rattle.lemmas.proofs.Members.{keys-of}
 use Rattle.table_words.specs.Rows.{Row, numbered, only-rows, tokens-at}
 use Rattle.table_words.proofs.RowLaws.{is-empty}
 use Rattle.table_words.proofs.TableLaws.{same-each}
 
 -- None of them is empty.
-pub tokens-full : only-rows (λ (r : Row). is-empty (r .1)) (numbered 0 op-tokens) ≡ []
+pub tokens-full : only-rows (λ (r : Row). is-empty (r .1)) (numbered 0 (words-of op-tokens)) ≡ []
 unfolding op-tokens cps encode-all encode
 tokens-full = refl
 

@@ -6,7 +6,7 @@ use mathlib.Core.List.{List}
 use native.Mathlib.Omega.{arith}
 use lib.ListN.{length, getD}
 use Rattle.definition.specs.Basics.{Bytes, mem-cp}
-use Rattle.definition.specs.Tables.{op-tokens}
+use Rattle.definition.specs.Tables.{op-tokens, words-of}
 use Rattle.definition.specs.Matchers.{match-lit}
 use Rattle.definition.specs.Select.{none-at, try-words}
 use Rattle.definition.specs.declared.Match.{Match}
@@ -21,23 +21,23 @@ module _ (s : Bytes) (i : ℕ) where
   lit w = match-lit s w i
 
   -- Past the end there is none.
-  pub token-past : length s ≤ i → try-words i 36 lit 0 op-tokens (none-at i) ≡ none-at i
+  pub token-past : length s ≤ i → try-words i 36 lit 0 (words-of op-tokens) (none-at i) ≡ none-at i
   unfolding try-rows
   token-past h =
-      words-rows i 36 lit 0 op-tokens (none-at i)
-      ∙ rows-left i 36 lit (λ r. is-empty (r .1)) (λ r t. past-end s i h (r .1) t) (numbered 0 op-tokens) (none-at i) (omega arith)
+      words-rows i 36 lit 0 (words-of op-tokens) (none-at i)
+      ∙ rows-left i 36 lit (λ r. is-empty (r .1)) (λ r t. past-end s i h (r .1) t) (numbered 0 (words-of op-tokens)) (none-at i) (omega arith)
       ∙ ap (λ (rs : List Row). try-rows i 36 lit rs (none-at i)) tokens-full
 
   module _ (h : i < length s) where
     -- Elsewhere only those that may stand where the byte does are tried,
-    pub token-is : {b : ℕ} → getD s i 0 ≡ b → try-rows i 36 lit (tokens-at b) (none-at i) ≡ try-words i 36 lit 0 op-tokens (none-at i)
+    pub token-is : {b : ℕ} → getD s i 0 ≡ b → try-rows i 36 lit (tokens-at b) (none-at i) ≡ try-words i 36 lit 0 (words-of op-tokens) (none-at i)
     token-is e =
         rw (← e)
-        (sym (words-rows i 36 lit 0 op-tokens (none-at i)
-        ∙ rows-left i 36 lit (λ r. starts-with (getD s i 0) (r .1)) (λ r t. other-start s i h (r .1) t) (numbered 0 op-tokens) (none-at i) (omega arith)))
+        (sym (words-rows i 36 lit 0 (words-of op-tokens) (none-at i)
+        ∙ rows-left i 36 lit (λ r. starts-with (getD s i 0) (r .1)) (λ r t. other-start s i h (r .1) t) (numbered 0 (words-of op-tokens)) (none-at i) (omega arith)))
 
     -- and none where no token begins with it.
-    pub token-none : getD s i 0 < 256 → Rest first-bytes (getD s i 0) → none-at i ≡ try-words i 36 lit 0 op-tokens (none-at i)
+    pub token-none : getD s i 0 < 256 → Rest first-bytes (getD s i 0) → none-at i ≡ try-words i 36 lit 0 (words-of op-tokens) (none-at i)
     unfolding try-rows mem-cp
     token-none small n =
         sym (ap (λ (rs : List Row). try-rows i 36 lit rs (none-at i)) (tokens-none (getD s i 0) small (no-key first-bytes (getD s i 0) refl n)))

@@ -25,7 +25,7 @@ use choice::nothing;
 use definition::Choice;
 ghost use mathlib.Core.Path.{_≡_};
 ghost use mathlib.Core.List.{[], _∷_};
-ghost use Rattle.definition.specs.Tables.{op-tokens};
+ghost use Rattle.definition.specs.Tables.{op-tokens, words-of};
 ghost use Rattle.definition.specs.Matchers.{match-lit};
 ghost use Rattle.definition.specs.Select.{none-at, try-words};
 ghost use Rattle.table_words.specs.Rows.{try-rows};
@@ -46,7 +46,7 @@ fn only_pair(text: &[u8], i: usize, a: u8, b: u8, number: usize) -> Choice
 
 // The longest of the operator tokens at i: only those that begin with the byte there are tried.
 pub fn op_token(text: &[u8], i: usize) -> Choice
-    ensures { λ r. ⌜ r ≡ try-words i 36 (λ w. match-lit (now (text .entry)) w i) 0 op-tokens (none-at i) ⌝ }
+    ensures { λ r. ⌜ r ≡ try-words i 36 (λ w. match-lit (now (text .entry)) w i) 0 (words-of op-tokens) (none-at i) ⌝ }
 {
     if text.len() <= i {
         return nothing(i);

@@ -1,6 +1,7 @@
 -- Rows tried in turn: one row after another, rows that can be left out since their words don't stand in the text, and the first that fits.
 -- Rests on the definition of `try-words` and of `match-lit`.
 use Prim.Native.Nat.{ℕ, zero, suc, _+_, _≤_, _<_}
+use Prim.Native.String.{String}
 use mathlib.Core.Path.{_≡_, refl, sym, ap, _∙_}
 use mathlib.Core.Bool.{Bool, true, false, not, _&&_, _||_, false≢true}
 use mathlib.Core.List.{List, [], _∷_}
@@ -12,7 +13,7 @@ use lib.Seq.{slice, slice-cons, drop-cons}
 use borrow.Author.Tests.{lt-ltb, le-ltb, not-false, eqb-true, eqb-false, eq-eqb, ne-eqb}
 use Rattle.definition.specs.Basics.{Bytes}
 use Rattle.definition.specs.Text.{byte-is}
-use Rattle.definition.specs.Tables.{Entry, cps}
+use Rattle.definition.specs.Tables.{cps}
 use Rattle.definition.specs.Matchers.{match-lit}
 use Rattle.definition.specs.Select.{none-at, keep, found, try-words}
 use Rattle.definition.specs.declared.Choice.{Choice}
@@ -44,10 +45,10 @@ none-start {b} {i} e = rw e (omega arith)
 
 module _ (i place : ℕ) (m : Bytes → Match) where
   -- The definition tries the rows of its table.
-  pub words-rows : (w : ℕ) (es : List Entry) (best : Choice) → try-words i place m w es best ≡ try-rows i place m (numbered w es) best
+  pub words-rows : (w : ℕ) (es : List String) (best : Choice) → try-words i place m w es best ≡ try-rows i place m (numbered w es) best
   unfolding try-words try-rows
   words-rows w [] best = refl
-  words-rows w (e ∷ es) best = words-rows (suc w) es (keep best (found i place w (m (cps (e .0)))))
+  words-rows w (e ∷ es) best = words-rows (suc w) es (keep best (found i place w (m (cps e))))
 
   -- A word that isn't there leaves the best as it is.
   keep-none : (best : Choice) (w : ℕ) {n : Match} → n ≡ Nothing → i ≤ best .end → keep best (found i place w n) ≡ best
@@ -89,7 +90,7 @@ module _ (i place : ℕ) (m : Bytes → Match) where
       (λ t. rw (t, only-rows, keep-none best (r .0) (none r t) h) (rows-left q none rs best h))
 
   -- Where all rows of a table can be left out nothing is chosen.
-  pub all-left : (q : Row → Bool) → ((r : Row) → q r ≡ false → m (r .1) ≡ Nothing) → (es : List Entry) → only-rows q (numbered 0 es) ≡ []
+  pub all-left : (q : Row → Bool) → ((r : Row) → q r ≡ false → m (r .1) ≡ Nothing) → (es : List String) → only-rows q (numbered 0 es) ≡ []
       → try-words i place m 0 es (none-at i) ≡ none-at i
   unfolding try-rows
   all-left q none es e =

@@ -1,5 +1,6 @@
 -- Tables of rows of padded bytes: what the code reads at a row and a byte is the word's byte. Rests on the laws of lists.
 use Prim.Native.Nat.{ℕ, zero, suc, _+_, _≤_, _<_}
+use Prim.Native.String.{String}
 use mathlib.Core.Path.{_≡_, refl, sym, ap, _∙_}
 use mathlib.Core.Bool.{Bool, true, false, _&&_}
 use mathlib.Core.List.{List, [], _∷_, _++_, map}
@@ -12,7 +13,6 @@ use borrow.Author.Tests.{leb-true}
 use Rattle.definition.specs.Basics.{Bytes}
 use Rattle.definition.specs.Chars.{count-up}
 use Rattle.definition.specs.Text.{byte-is}
-use Rattle.definition.specs.Tables.{Entry}
 use Rattle.definition.specs.Matchers.{match-lit}
 use Rattle.definition.specs.declared.Match.the-variants.{To, Nothing}
 use Rattle.lemmas.proofs.Cases.{both}
@@ -62,13 +62,13 @@ row-byte n rs t k j hk hj =
     ∙ List·getD-append w (replicate n 0) 0 j hj
 
 -- The rows of a definition's table are numbered from its first on.
-number-at : (es : List Entry) (w k : ℕ) → k < length es → getD (numbered w es) k no-row .0 ≡ w + k
+number-at : (es : List String) (w k : ℕ) → k < length es → getD (numbered w es) k no-row .0 ≡ w + k
 number-at [] w k h = absurd (omega arith)
 number-at (e ∷ es) w zero h = sym (add-zero w)
 number-at (e ∷ es) w (suc k) h = omega (arith, number-at es (suc w) k (omega arith))
 
 -- Row k of one that is numbered from 0 on has number k.
-pub own-number : (es : List Entry) (k : ℕ) → k < length es → k ≡ getD (numbered 0 es) k no-row .0
+pub own-number : (es : List String) (k : ℕ) → k < length es → k ≡ getD (numbered 0 es) k no-row .0
 own-number es k h = omega (arith, number-at es 0 k h)
 
 -- ---- a word of a table, compared with the text byte by byte

@@ -1,12 +1,13 @@
 -- The definition's tables as rows of a number and a word: trying some of them in turn, the first that fits, and those that may stand
 -- where a byte does.
 use Prim.Native.Nat.{ℕ, zero, suc}
+use Prim.Native.String.{String}
 use mathlib.Core.Bool.{Bool, true, false, _&&_}
 use mathlib.Core.List.{List, [], _∷_, _++_, map}
 use lib.Dec.{eqb}
 use lib.ListN.{take, replicate}
 use Rattle.definition.specs.Basics.{Bytes}
-use Rattle.definition.specs.Tables.{Entry, cps, op-tokens}
+use Rattle.definition.specs.Tables.{cps, op-tokens, words-of}
 use Rattle.definition.specs.Matchers.{match-lit}
 use Rattle.definition.specs.Select.{keep, found}
 use Rattle.definition.specs.declared.Choice.{Choice}
@@ -18,9 +19,9 @@ abbrev pub Row : Type 0
 Row = ℕ × Bytes
 
 -- the rows of a table whose first word is numbered w
-abbrev pub numbered : ℕ → List Entry → List Row
+abbrev pub numbered : ℕ → List String → List Row
 numbered w [] = []
-numbered w (e ∷ es) = (w, cps (e .0)) ∷ numbered (suc w) es
+numbered w (e ∷ es) = (w, cps e) ∷ numbered (suc w) es
 
 -- a word in a row of n bytes
 abbrev pub pad : ℕ → Bytes → Bytes
@@ -58,4 +59,4 @@ starts-two a b (c ∷ d ∷ l) = eqb c a && eqb d b
 
 -- the operator tokens that may stand where the byte b does
 abbrev pub tokens-at : ℕ → List Row
-tokens-at b = only-rows (λ r. starts-with b (r .1)) (numbered 0 op-tokens)
+tokens-at b = only-rows (λ r. starts-with b (r .1)) (numbered 0 (words-of op-tokens))

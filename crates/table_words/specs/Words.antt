@@ -5,7 +5,7 @@ use Rattle.definition.specs.Tables.{Entry, cps, keywords, constructors, uoperat
 
 -- the words of a table
 abbrev pub spelled : List Entry → List Bytes
-spelled table = map (λ e. cps (e .0)) table
+spelled table = map (λ e. cps (e .word)) table
 
 -- the words of the three tables
 unfoldable pub words : List Bytes

@@ -125,7 +125,7 @@ read-encode c sc rest =
     by-size (λ l. sequence-at (l ++ rest) 0 ≡ Char c (length l)) c
     (read-1 c rest)
     (read-2 c rest)
-    (λ h k. read-3 c rest h k (sc .plain))
+    (λ h k. read-3 c rest h k (sc .no-surrogate))
     (λ h. read-4 c rest h (sc .small))
 
 -- ---- what is read was written
@@ -184,7 +184,7 @@ unfolding two tail-bits
 reads-2 b x [] e h k = tt
 reads-2 b x (d ∷ l) e h k =
     by-if-lt (Reads (b ∷ d ∷ l)) (tail-bits d) 64
-    (λ y. spelled (b ∷ d ∷ []) l (record { small = omega arith; plain = inl (omega arith) }) (is y) refl)
+    (λ y. spelled (b ∷ d ∷ []) l (record { small = omega arith; no-surrogate = inl (omega arith) }) (is y) refl)
     (λ _. tt)
   where
     is : tail-bits d < 64 → encode (x * 64 + tail-bits d) ≡ b ∷ d ∷ []
@@ -211,7 +211,7 @@ reads-3 b x (d ∷ f ∷ l) e k =
         write-3 x (tail-bits d) (tail-bits f) h k y z ∙ (cc)
 
     right : tail-bits d < 64 → tail-bits f < 64 → 0x800 ≤ C → (C < 0xD800) ⊎ (0xE000 ≤ C) → R (Char C 3)
-    right y z h p = spelled (b ∷ d ∷ f ∷ []) l (record { small = omega arith; plain = p }) (is y z h) refl
+    right y z h p = spelled (b ∷ d ∷ f ∷ []) l (record { small = omega arith; no-surrogate = p }) (is y z h) refl
 
     code : tail-bits d < 64 → tail-bits f < 64 → R (three-bytes C)
     code y z =
@@ -245,7 +245,7 @@ reads-4 b x (d ∷ f ∷ g ∷ l) e =
         write-4 x (tail-bits d) (tail-bits f) (tail-bits g) h y z t ∙ (cc)
 
     right : tail-bits d < 64 → tail-bits f < 64 → tail-bits g < 64 → 0x10000 ≤ C → C < 0x110000 → R (Char C 4)
-    right y z t h p = spelled (b ∷ d ∷ f ∷ g ∷ []) l (record { small = omega arith; plain = inr (omega arith) }) (is y z t h) refl
+    right y z t h p = spelled (b ∷ d ∷ f ∷ g ∷ []) l (record { small = omega arith; no-surrogate = inr (omega arith) }) (is y z t h) refl
 
     code : tail-bits d < 64 → tail-bits f < 64 → tail-bits g < 64 → R (four-bytes C)
     code y z t = by-if-lt R C 0x10000 (λ _. tt) (λ h. by-if-lt R C 0x110000 (right y z t h) (λ _. tt))
@@ -256,7 +256,7 @@ unfolding sequence
 reads [] = rw (read-end [] 0 (omega arith))
 reads (b ∷ l) =
     rw read-first
-    (by-if-lt R b 0x80 (λ h. spelled (b ∷ []) l (record { small = omega arith; plain = inl (omega arith) }) (encode-1 b h) refl)
+    (by-if-lt R b 0x80 (λ h. spelled (b ∷ []) l (record { small = omega arith; no-surrogate = inl (omega arith) }) (encode-1 b h) refl)
     (λ _. by-if-lt R b 0xC2 (λ _. tt)
     (λ h. by-if-lt R b 0xE0 (λ k. reads-2 b (b - 0xC0) l (omega arith) (omega arith) (omega arith))
     (λ h. by-if-lt R b 0xF0 (λ k. reads-3 b (b - 0xE0) l (omega arith) (omega arith))

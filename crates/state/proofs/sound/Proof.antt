@@ -6,8 +6,8 @@ use Rattle.state.proofs.Ladders.{holds, fails}
 use Rattle.state.proofs.sound.Statement.{statement}
 use Rattle.state.proofs.sound.Tie as tie
 
-place-sound-requires : tie.Need-place-sound-requires
-place-sound-requires c κs = search needs
+offsets-sound-requires : tie.Need-offsets-sound-requires
+offsets-sound-requires c κs = search needs
 
 counts-sound-requires : tie.Need-counts-sound-requires
 counts-sound-requires c κs = search needs
@@ -20,19 +20,19 @@ comment-sound-requires c κs = search needs
 
 returns : tie.Need-returns
 unfolding sound
-returns c = c .comment-sound .ensures ∙ holds _ (c .before .before .depth-sound .ensures) (c .before .if3 .taken) ∙ holds _ (c .before .before .before .before .counts-sound .ensures) (c .before .before .before .if2 .taken) ∙ holds _ (c .before .before .before .before .before .before .place-sound .ensures) (c .before .before .before .before .before .if1 .taken)
+returns c = c .comment-sound .ensures ∙ holds _ (c .before .before .depth-sound .ensures) (c .before .if3 .taken) ∙ holds _ (c .before .before .before .before .counts-sound .ensures) (c .before .before .before .if2 .taken) ∙ holds _ (c .before .before .before .before .before .before .offsets-sound .ensures) (c .before .before .before .before .before .if1 .taken)
 
 returns-2 : tie.Need-returns-2
 unfolding sound
-returns-2 c = fails _ (c .before .depth-sound .ensures) (c .if3 .left) ∙ holds _ (c .before .before .before .counts-sound .ensures) (c .before .before .if2 .taken) ∙ holds _ (c .before .before .before .before .before .place-sound .ensures) (c .before .before .before .before .if1 .taken)
+returns-2 c = fails _ (c .before .depth-sound .ensures) (c .if3 .left) ∙ holds _ (c .before .before .before .counts-sound .ensures) (c .before .before .if2 .taken) ∙ holds _ (c .before .before .before .before .before .offsets-sound .ensures) (c .before .before .before .before .if1 .taken)
 
 returns-3 : tie.Need-returns-3
 unfolding sound
-returns-3 c = fails _ (c .before .counts-sound .ensures) (c .if2 .left) ∙ holds _ (c .before .before .before .place-sound .ensures) (c .before .before .if1 .taken)
+returns-3 c = fails _ (c .before .counts-sound .ensures) (c .if2 .left) ∙ holds _ (c .before .before .before .offsets-sound .ensures) (c .before .before .if1 .taken)
 
 returns-4 : tie.Need-returns-4
 unfolding sound
-returns-4 c = fails _ (c .before .place-sound .ensures) (c .if1 .left)
+returns-4 c = fails _ (c .before .offsets-sound .ensures) (c .if1 .left)
 
 pub sound-spec : {M : Type 1} → statement M
-sound-spec = tie.close (tie.spec place-sound-requires counts-sound-requires depth-sound-requires comment-sound-requires returns returns-2 returns-3 returns-4)
+sound-spec = tie.close (tie.spec offsets-sound-requires counts-sound-requires depth-sound-requires comment-sound-requires returns returns-2 returns-3 returns-4)

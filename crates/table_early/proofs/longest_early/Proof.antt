@@ -6,7 +6,7 @@ use mathlib.Core.Path.{_≡_, sym, ap, _∙_}
 use lib.Seq.{slice}
 use borrow.Author.Tests.{not-true, not-false}
 use Rattle.definition.specs.Utf8.{encode, encode-all}
-use Rattle.definition.specs.Tables.{cps, early-literals}
+use Rattle.definition.specs.Tables.{cps, early-literals, words-of}
 use Rattle.definition.specs.Matchers.{match-lit}
 use Rattle.definition.specs.Select.{none-at, try-words}
 use Rattle.match_lit.proofs.ByteLaws.{has-inside}
@@ -26,7 +26,7 @@ abbrev μ-loop : tie.MeasureT-loop
 μ-loop text i best next k n end₀ j₀ end j = n - j
 
 abbrev Inv-words : tie.InvT-words
-Inv-words text i best₀ next₀ best next = (i ≤ best .end) × (try-rows i 1 (λ w. match-lit text w i) (slice next 15 early) best ≡ try-words i 1 (λ w. match-lit text w i) 0 early-literals (none-at i))
+Inv-words text i best₀ next₀ best next = (i ≤ best .end) × (try-rows i 1 (λ w. match-lit text w i) (slice next 15 early) best ≡ try-words i 1 (λ w. match-lit text w i) 0 (words-of early-literals) (none-at i))
 
 abbrev μ-words : tie.MeasureT-words
 μ-words text i best₀ next₀ best next = 15 - next
@@ -38,7 +38,7 @@ words-holds : tie.Need-words-holds Inv-loop μ-loop Inv-words μ-words
 unfolding early-literals
 words-holds c =
     let a = c .before .before .args in
-    (none-start (c .nothing .ensures), ap (try-rows (a .i) 1 (λ w. match-lit (a .text .now) w (a .i)) early) (c .nothing .ensures) ∙ sym (words-rows (a .i) 1 (λ w. match-lit (a .text .now) w (a .i)) 0 early-literals (none-at (a .i))))
+    (none-start (c .nothing .ensures), ap (try-rows (a .i) 1 (λ w. match-lit (a .text .now) w (a .i)) early) (c .nothing .ensures) ∙ sym (words-rows (a .i) 1 (λ w. match-lit (a .text .now) w (a .i)) 0 (words-of early-literals) (none-at (a .i))))
 
 add-next : tie.Need-add-next Inv-loop μ-loop Inv-words μ-words
 add-next c = search needs
@@ -98,7 +98,7 @@ words-again-2 c =
     let b = c .before .before in
     let w = b .before .before in
     let there = compared 20 early early-short _ (b .loop .inv) (c .before .loop-test .left) in
-    let number = own-number early-literals (w .words .next) (b .before .words-test .taken) in (
+    let number = own-number (words-of early-literals) (w .words .next) (b .before .words-test .taken) in (
       rw (c .keep .ensures) (keep-later _ _ (w .words .inv .0)),
       row-take _ 1 _ early _ 15 _ (b .before .words-test .taken) (omega arith) there number (c .keep .ensures) ∙ w .words .inv .1,
     )

@@ -1,10 +1,10 @@
 -- The three tests in the order of the definition.
 use borrow.Author.Needs.{needs}
 use mathlib.Core.Path.{_∙_}
-use Rattle.definition.specs.State.{place-sound}
+use Rattle.definition.specs.State.{offsets-sound}
 use Rattle.state.proofs.Ladders.{holds, fails}
-use Rattle.state.proofs.place_sound.Statement.{statement}
-use Rattle.state.proofs.place_sound.Tie as tie
+use Rattle.state.proofs.offsets_sound.Statement.{statement}
+use Rattle.state.proofs.offsets_sound.Tie as tie
 
 at-character-requires : tie.Need-at-character-requires
 at-character-requires c κs = search needs
@@ -13,16 +13,16 @@ at-character-requires-2 : tie.Need-at-character-requires-2
 at-character-requires-2 c κs = search needs
 
 returns : tie.Need-returns
-unfolding place-sound
+unfolding offsets-sound
 returns c = holds _ (c .before .before .at-character2 .ensures) (c .before .if2 .taken) ∙ holds _ (c .before .before .before .before .at-character .ensures) (c .before .before .before .if1 .taken)
 
 returns-2 : tie.Need-returns-2
-unfolding place-sound
+unfolding offsets-sound
 returns-2 c = fails _ (c .before .at-character2 .ensures) (c .if2 .left) ∙ holds _ (c .before .before .before .at-character .ensures) (c .before .before .if1 .taken)
 
 returns-3 : tie.Need-returns-3
-unfolding place-sound
+unfolding offsets-sound
 returns-3 c = fails _ (c .before .at-character .ensures) (c .if1 .left)
 
-pub place-sound-spec : {M : Type 1} → statement M
-place-sound-spec = tie.close (tie.spec at-character-requires at-character-requires-2 returns returns-2 returns-3)
+pub offsets-sound-spec : {M : Type 1} → statement M
+offsets-sound-spec = tie.close (tie.spec at-character-requires at-character-requires-2 returns returns-2 returns-3)
