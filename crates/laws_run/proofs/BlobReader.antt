@@ -1,7 +1,7 @@
 -- Blobs: one walk over a turn of `blob` and one over a turn of `use-lang`, in which the state goes on by a path. From them that their fuel
 -- never runs out, and which form their items have. Rests on paths and forms, and on the ends of matchers and runs (crate `laws_progress`).
 use Prim.Native.Nat.{ℕ, _+_, _≤_, _<_}
-use mathlib.Core.Path.{_≡_, refl}
+use mathlib.Core.Path.{_≡_, refl, _∙_}
 use mathlib.Core.List.{[]}
 use native.Mathlib.Omega.{arith}
 use lib.Dec.{ltb}
@@ -18,13 +18,15 @@ use Rattle.definition.specs.declared.Pos.{Pos}
 use Rattle.definition.specs.declared.State.{State}
 use Rattle.lemmas.proofs.Loops.{says, Leads, leads-map, Falls, Any, loop-keeps, loop-same, loop-unroll}
 use Rattle.lemmas.proofs.Cases.{by-lt, by-le, by-if-lt, by-match}
+use Rattle.state.specs.Sound.{Stands}
 use Rattle.laws_progress.proofs.Walks.{rest, Walk, Onward, walk-past, star-walks, Clean}
 use Rattle.laws_progress.proofs.Matches.{newline-ends}
 use Rattle.laws_progress.proofs.Words.{word-onward}
 use Rattle.laws_progress.proofs.Scans.{after-walks, after-onward}
 use Rattle.laws_run.specs.Going.{blob-from, lang-from}
+use Rattle.laws_run.proofs.Moving.{ended-stands}
 use Rattle.laws_run.proofs.Sizes.{part-size}
-use Rattle.laws_run.proofs.Paths.{walk-ahead, Path, stay, on, path-path, path-reads, Goes, goes-on, goes-line, going-falls}
+use Rattle.laws_run.proofs.Paths.{walk-ahead, Path, stay, on, path-path, path-reads, Goes, goes-on, goes-line, going-falls, path-stands, goes-stands}
 use Rattle.laws_run.proofs.Forms.{Form, blob as a-blob, error, nothing}
 
 module _ (s : Bytes) (from : ℕ) (h : Header) where
@@ -75,6 +77,19 @@ module _ (s : Bytes) (from : ℕ) (h : Header) where
 
   pub lang-falls : Falls (lang-turn s from h) Any (λ st. rest s (st .offset)) Any
   lang-falls = going-falls s (λ st. st) (lang-turn s from h) Any BlobEnd (λ st b p c. c) lang-leads
+
+  -- from a sound state between comments a turn of either comes to one
+  end-stands : {st : State} → Stands s st → st .mode ≡ 0 → (t : Step) → BlobEnd st t → Stands s (t .next)
+  end-stands k m t (closes n sp ep p) = path-stands p k
+  end-stands k m t open-ended = ended-stands k m
+
+  pub blob-turn-stands : (st : State) → Stands s st → st .mode ≡ 0
+      → Leads (λ b. Stands s b × (b .mode ≡ 0)) (λ t. Stands s (t .next)) (blob-turn s from h st)
+  blob-turn-stands st k m = leads-map (λ b g. let q = goes-stands g k in (q .0, q .1 ∙ m)) (end-stands k m) (blob-turn s from h st) (blob-leads st)
+
+  pub lang-turn-stands : (st : State) → Stands s st → st .mode ≡ 0
+      → Leads (λ b. Stands s b × (b .mode ≡ 0)) (λ t. Stands s (t .next)) (lang-turn s from h st)
+  lang-turn-stands st k m = leads-map (λ b g. let q = goes-stands g k in (q .0, q .1 ∙ m)) (end-stands k m) (lang-turn s from h st) (lang-leads st)
 
   -- more fuel and another `out` change nothing
   pub blob-enough : (out : State → Step) (n : ℕ) (st : State) → Clean s (st .offset) → rest s (st .offset) < n → loop (blob-turn s from h) out n st ≡ blob-from s from h st

@@ -18,11 +18,13 @@ use Rattle.definition.specs.Comment.{comment-stop, terminate, comment-turn, com
 use Rattle.definition.specs.declared.State.{State}
 use Rattle.lemmas.proofs.Loops.{says, Leads, leads-map, Falls, Any, loop-keeps, loop-same, loop-unroll}
 use Rattle.lemmas.proofs.Cases.{by-test, by-lt, by-le, by-match}
+use Rattle.state.specs.Sound.{Stands}
 use Rattle.laws_progress.proofs.Walks.{rest, Onward, walk-past, walk-forward, star-walks, Clean}
 use Rattle.laws_progress.proofs.Matches.{newline-ends}
 use Rattle.laws_progress.proofs.Scans.{after-walks, after-onward, two-onward}
+use Rattle.laws_run.proofs.Moving.{closing-stands}
 use Rattle.laws_run.proofs.Sizes.{part-size, trim-size}
-use Rattle.laws_run.proofs.Paths.{walk-ahead, Path, stay, on, line, inner, path-path, path-reads, Goes, goes-on, goes-line}
+use Rattle.laws_run.proofs.Paths.{walk-ahead, Path, stay, on, line, inner, path-path, path-reads, Goes, goes-on, goes-line, path-stands, goes-stands}
 use Rattle.laws_run.proofs.Forms.{Piece, Form, line as a-line, nothing}
 
 -- in a comment whose text from here on has whole characters only
@@ -61,6 +63,14 @@ module _ (s : Bytes) (from : ℕ) where
         (λ b g. let r = path-reads (g .path) in ((r .ahead .clean (h .0), r .mode ∙ h .1), g .moves (h .0))) (λ t _. tt)
         (comment-turn s from st) (comment-leads st (h .1));
   }
+
+  -- from a sound state a turn comes to one, and in a comment it stays in it, or ends a level
+  pub comment-turn-stands : (st : State) → Stands s st → st .mode ≡ 1
+      → Leads (λ b. Stands s b × (b .mode ≡ 1)) (λ t. Stands s (t .next)) (comment-turn s from st)
+  comment-turn-stands st h m = leads-map (λ b g. let k = goes-stands g h in (k .0, k .1 ∙ m)) end (comment-turn s from st) (comment-leads st m)
+    where
+      end : (t : Step) → CommentEnd st t → Stands s (t .next)
+      end t (ends closed p) = closing-stands (path-stands p h) (path-reads p .mode ∙ m)
 
   -- more fuel and another `out` change nothing
   pub comment-enough : (out : State → Step) (n : ℕ) (st : State) → InComment s st → rest s (st .offset) < n → loop (comment-turn s from) out n st ≡ comment s from st

@@ -25,7 +25,7 @@ use Rattle.lemmas.proofs.Cases.{by-test, by-lt}
 use Rattle.state.specs.Sound.{Stands}
 use Rattle.laws_progress.proofs.Walks.{Onward, Clean, clean-walk}
 use Rattle.laws_run.specs.Left.{level, awake, left, Opened}
-use Rattle.laws_run.specs.Budget.{growth, most, budget}
+use Rattle.laws_run.specs.Budget.{most, budget, longest-payload}
 use Rattle.laws_run.specs.Split.{payload-size}
 use Rattle.laws_run.proofs.Moving.{stands-within, walk-stands, one-more-stands, closing-stands, ended-stands, open-stands}
 use Rattle.laws_run.proofs.Paths.{Path, Reads, path-reads, path-stands}
@@ -84,7 +84,7 @@ pub record Kept (s name : Bytes) (st : State) (t : Step) : Type 0 where
   pub gives : Gives s st t
   pub sound : Stands s st → Stands s (t .next)
   pub bounded : Stands s st → length name ≤ 4096 → length (t .payload) + budget s (t .next) ≤ most s st
-  pub short : Stands s st → length name ≤ 50 → length (t .payload) ≤ 4 * length s + 100
+  pub short : Stands s st → length name ≤ 50 → length (t .payload) ≤ longest-payload s
   pub measured : Measured t
 
 -- if the reading is over after it, it is an ERROR
@@ -274,7 +274,7 @@ module _ {s name : Bytes} {U : Type 0} {st : State} where
   form-bounded (opened o p) h n = omega (arith, piece-bounded (omega arith) p (o .within), o .past, o .within)
   form-bounded (error {a} n′ text from to p b u) h n = omega (arith, path-reads p .spent (stands-within h))
 
-  pub form-short : {t : Step} → Form s name U st t → Stands s st → length name ≤ 50 → length (t .payload) ≤ 4 * length s + 100
+  pub form-short : {t : Step} → Form s name U st t → Stands s st → length name ≤ 50 → length (t .payload) ≤ longest-payload s
   form-short (token k text sp ep x p l b) h n =
       let w = path-reads p .ahead .within (stands-within h) in
       ⊎-elim (λ c. omega (arith, c)) (λ c. omega (arith, c .0)) (b (line-small h))

@@ -35,7 +35,7 @@ use Rattle.laws_run.proofs.Sizes.{entry-small}
 use Rattle.laws_run.proofs.Moving.{stands-within}
 use Rattle.laws_run.proofs.Paths.{Path, stay, path-path, path-reads, Goes, goes-stands, going-falls}
 use Rattle.laws_run.specs.Left.{Opened}
-use Rattle.laws_run.specs.Budget.{budget}
+use Rattle.laws_run.specs.Budget.{budget, longest-payload}
 use Rattle.laws_run.proofs.Forms.{error, Kept, budget-most, most-budget, piece-sound, piece-kept, form-kept, eof-kept, error-kept, path-kept}
 use Rattle.laws_run.proofs.CommentReader.{comment-piece}
 use Rattle.laws_run.proofs.Rules.{Says, Asks, rule-says}
@@ -161,6 +161,12 @@ module _ (s name f : Bytes) where
       by-le (Leads (Goes s (Unit {0}) st) (Kept s name st)) (length s) (st .offset) (λ _. eof-kept st _ _ (between-zero n))
       (λ l. leads-map (λ b g. g) (λ t k. form-kept (between-zero n) (omega arith) k) (act s name f st (select s f (st .offset))) (act-says st (omega arith)))
 
+  -- from a sound state between comments a turn comes to one
+  pub token-turn-stands : (st : State) → Stands s st → st .mode ≡ 0
+      → Leads (λ b. Stands s b × (b .mode ≡ 0)) (λ t. Stands s (t .next)) (token-turn s name f st)
+  token-turn-stands st h m =
+      leads-map (λ b g. let k = goes-stands g h in (k .0, k .1 ∙ m)) (λ t k. k .sound h) (token-turn s name f st) (turn-keeps st (zero-between m))
+
   -- ---- `next-token`
 
   -- each turn reads something
@@ -215,6 +221,10 @@ module _ (s name f : Bytes) where
   -- A step's payload, and what is left to spend after it.
   pub payload-bound : length name ≤ 4096 → (st : State) → Stands s st → (st .mode ≡ 2 → ⊥) → length (step s name f st .payload) + budget s (step s name f st .next) ≤ budget s st
   payload-bound named st h n = omega (arith, step-kept st (h .sound .opened) n .bounded h named, most-budget s st n)
+
+  -- With a short name it has at most four bytes for each byte of the text, and a hundred.
+  pub payload-short : length name ≤ 50 → (st : State) → Stands s st → (st .mode ≡ 2 → ⊥) → length (step s name f st .payload) ≤ longest-payload s
+  payload-short named st h n = step-kept st (h .sound .opened) n .short h named
 
   -- Every state that a run comes to is sound.
   pub reached-stands : {g st : State} → Reached s name f g st → Stands s g → Stands s st

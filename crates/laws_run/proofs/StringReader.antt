@@ -29,13 +29,15 @@ use Rattle.lemmas.proofs.Loops.{says, Leads, leads-map, Falls, Any, loop-keeps,
 use Rattle.lemmas.proofs.Cases.{by-test, by-lt, by-le, by-match, either}
 use Rattle.utf8.proofs.Character.{encode-size}
 use Rattle.laws_progress.proofs.Characters.{char-at}
+use Rattle.state.specs.Sound.{Stands}
 use Rattle.laws_progress.proofs.Walks.{rest, Onward, onward-walk, walk-past, char-onward, star-walks, Clean, clean-walk, clean-char, Passes}
 use Rattle.laws_progress.proofs.Ends.{Ends, ends-only}
 use Rattle.laws_progress.proofs.Matches.{small-is, behind, byte-is-onward, newline-ends, escape-ends}
 use Rattle.laws_progress.proofs.Scans.{star-onward}
 use Rattle.laws_run.specs.Going.{string-from}
+use Rattle.laws_run.proofs.Moving.{walk-stands, ended-stands}
 use Rattle.laws_run.proofs.Sizes.{part-size}
-use Rattle.laws_run.proofs.Paths.{walk-ahead, Path, stay, on, path-path, path-reads, Goes, goes-on, goes-line}
+use Rattle.laws_run.proofs.Paths.{walk-ahead, Path, stay, on, path-path, path-reads, Goes, goes-on, goes-line, goes-stands}
 use Rattle.laws_run.proofs.Forms.{Form, token, error, nothing}
 
 module _ (s : Bytes) where
@@ -140,6 +142,15 @@ module _ (s : Bytes) where
     -- each turn reads something
     pub string-falls : Falls (string-turn s f sp) (λ a. Any (a .0)) (λ a. rest s (a .0 .offset)) Any
     string-falls = record { at = λ a _. leads-map (λ b g. (tt, g .goes .moves tt)) (λ t _. tt) (string-turn s f sp a) (string-leads a) }
+
+    -- from a sound state between comments a turn comes to one
+    pub string-turn-stands : (a : State × Bytes) → Stands s (a .0) → a .0 .mode ≡ 0
+        → Leads (λ b. Stands s (b .0) × (b .0 .mode ≡ 0)) (λ t. Stands s (t .next)) (string-turn s f sp a)
+    string-turn-stands a h m = leads-map (λ b g. let k = goes-stands (g .goes) h in (k .0, k .1 ∙ m)) end (string-turn s f sp a) (string-leads a)
+      where
+        end : (t : Step) → StringEnd (a .0) (a .1) t → Stands s (t .next)
+        end t (quote o) = walk-stands h (o .walk)
+        end t (fails n u) = ended-stands h m
 
     -- more fuel and another `out` change nothing
     pub string-enough : (out : State × Bytes → Step) (n : ℕ) (a : State × Bytes) → rest s (a .0 .offset) < n → loop (string-turn s f sp) out n a ≡ string-from s f sp a

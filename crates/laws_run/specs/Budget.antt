@@ -19,3 +19,7 @@ most s st = growth * (length s - st .offset) + 2 * st .depth
 -- in any state
 unfoldable pub budget : Bytes → State → ℕ
 budget s st = elim (eqb (st .mode) 2) [ true ↦ 0 | false ↦ most s st ]
+
+-- where the file's name has at most 50 bytes no payload is longer than this
+abbrev pub longest-payload : Bytes → ℕ
+longest-payload s = 4 * length s + 100

@@ -13,7 +13,9 @@ use Rattle.definition.specs.Run.{Outcome, refusal, run}
 use Rattle.definition.specs.declared.State.{State}
 use Rattle.definition.specs.declared.RunAnswer.{RunAnswer}
 use Rattle.lemmas.proofs.Cases.{by-outcome}
-use Rattle.laws_progress.proofs.Moves.{left, Opened}
+use Rattle.laws_run.specs.Left.{left, Opened}
+use Rattle.laws_run.specs.Budget.{longest-payload}
+use Rattle.laws_run.proofs.Steps.{payload-short}
 use Rattle.laws_run.proofs.Refusals.{run-accepted}
 use Rattle.state.specs.Sound.{Stands}
 use Rattle.definition.specs.Items.{steps-of, Steps, payloads-of}
@@ -24,7 +26,6 @@ use Rattle.listing_lines.specs.Writing.{Room}
 use Rattle.listing_lines.specs.Rounds.{Begun, Lent, Refuses, Lists, Told, Rounded, Ends}
 use Rattle.listing_lines.specs.declared.rounds.Round.{Round}
 use Rattle.listing_lines.specs.declared.rounds.Ending.the-variants.{Refusal, All}
-use Rattle.listing_lines.proofs.PayloadSize.{longest-payload, payload-short}
 
 -- what a run that isn't refused did: its records fit, and so many items fewer are to come
 pub record Moved (s : Bytes) (st : State) (rs : List ℕ) (r : RunAnswer) : Type 0 where

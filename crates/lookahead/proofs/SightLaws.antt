@@ -14,7 +14,7 @@ use Rattle.definition.specs.Select.{select}
 use Rattle.definition.specs.Token.{Token-turn, next-token}
 use Rattle.definition.specs.declared.Choice.{Choice}
 use Rattle.lemmas.proofs.Loops.{says}
-use Rattle.laws_progress.proofs.Tokens.{token-unroll}
+use Rattle.laws_run.proofs.Steps.{token-unroll}
 use Rattle.reader.specs.Described.{Turns}
 use Rattle.reader.specs.Cursors.{moved, next-line}
 use Rattle.reader.specs.declared.Cursor.{Cursor}

@@ -13,8 +13,7 @@ use Rattle.definition.specs.declared.State.{State}
 use Rattle.lemmas.proofs.Loops.{Leads, Any, leads-map, leads-both}
 use Rattle.state.specs.Sound.{Stands}
 use Rattle.laws_progress.proofs.Walks.{rest}
-use Rattle.laws_progress.proofs.Tokens.{token-falls, token-unroll}
-use Rattle.laws_run.proofs.Steps.{token-turn-stands}
+use Rattle.laws_run.proofs.Steps.{token-turn-stands, token-falls, token-unroll}
 use Rattle.reader.specs.Described.{Turns}
 use Rattle.reader.specs.Standing.{Standing}
 use Rattle.reader.specs.declared.Cursor.{Cursor}

@@ -11,7 +11,8 @@ use Rattle.definition.specs.Text.{byte-has, star}
 use Rattle.definition.specs.Chars.{is-anywhite}
 use Rattle.definition.specs.Matchers.{_then_, plus, match-newline}
 use Rattle.definition.specs.Select.{found, select}
-use Rattle.definition.specs.Token.{rules, act}
+use Rattle.definition.specs.Rules.{place-rules, rule-of}
+use Rattle.definition.specs.Token.{act}
 use Rattle.definition.specs.declared.Match.{Match}
 use Rattle.definition.specs.declared.Match.the-variants.{To}
 use Rattle.lemmas.proofs.Cases.{either}
@@ -80,7 +81,7 @@ module _ {s f : Bytes} {at : Cursor} (h : Between s f at) where
   blank-chose t q = chose (blank-selects s f (at .st .offset) t q) refl
 
   pub blank-passes : {e : ℕ} {p : Cursor} → byte-has is-blank s (at .st .offset) ≡ true → e ≡ star (is-anywhite f) s (at .st .offset + 1) → p ≡ moved at e → Passes s f (at .st) (On p)
-  unfolding act rules
+  unfolding act rule-of place-rules
   blank-passes {e} {p} t q m name =
       turn-acts s name f (at .st) (record { place = 7; end = e; word = 0 }) (Again p) (byte-passes is-blank s (at .st .offset) t .0) (sym (blank-selects s f (at .st .offset) t q)) (moved-turns (blank-chose t q) m)
 
@@ -89,6 +90,6 @@ module _ {s f : Bytes} {at : Cursor} (h : Between s f at) where
   line-chose t q = chose (line-selects s f (at .st .offset) t q) refl
 
   pub line-passes : {e : ℕ} {p : Cursor} → byte-has is-line-end s (at .st .offset) ≡ true → match-newline s (at .st .offset) ≡ To e → p ≡ next-line at e → Passes s f (at .st) (On p)
-  unfolding act rules
+  unfolding act rule-of place-rules
   line-passes {e} {p} t q m name =
       turn-acts s name f (at .st) (record { place = 8; end = e; word = 0 }) (Again p) (byte-passes is-line-end s (at .st .offset) t .0) (sym (line-selects s f (at .st .offset) t q)) (line-turns (line-chose t q) m)

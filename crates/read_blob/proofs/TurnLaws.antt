@@ -19,10 +19,9 @@ use Rattle.lemmas.proofs.Cases.{by-found, by-outcome}
 use Rattle.lemmas.proofs.Loops.{says, Leads, Any, leads-map, leads-both}
 use Rattle.state.specs.Sound.{Stands}
 use Rattle.laws_progress.proofs.Walks.{rest}
-use Rattle.laws_progress.proofs.Literals.{blob-falls, lang-falls}
-use Rattle.laws_progress.proofs.Fuel.{blob-from, blob-unroll, blob-is, lang-from, lang-unroll, lang-is}
+use Rattle.laws_run.specs.Going.{blob-from, lang-from}
+use Rattle.laws_run.proofs.BlobReader.{blob-unroll, blob-is, lang-unroll, lang-is, blob-falls, lang-falls, blob-turn-stands, lang-turn-stands}
 use Rattle.laws_run.proofs.Moving.{stands-clean, stands-within}
-use Rattle.laws_run.proofs.TurnsSound.{blob-turn-stands, lang-turn-stands}
 use Rattle.reader.specs.declared.Cursor.{Cursor}
 use Rattle.reader.specs.declared.Turned.{Turned}
 use Rattle.reader.specs.declared.Turned.the-variants.{Done, Again}

@@ -9,10 +9,8 @@ use Rattle.definition.specs.declared.State.{State}
 use Rattle.lemmas.proofs.Loops.{Leads, Any, leads-both}
 use Rattle.state.specs.Sound.{Stands}
 use Rattle.laws_progress.proofs.Walks.{rest, Clean}
-use Rattle.laws_progress.proofs.Comments.{comment-falls}
-use Rattle.laws_progress.proofs.Fuel.{comment-unroll}
+use Rattle.laws_run.proofs.CommentReader.{comment-unroll, comment-falls, comment-turn-stands}
 use Rattle.laws_run.proofs.Moving.{stands-clean}
-use Rattle.laws_run.proofs.TurnsSound.{comment-turn-stands}
 use Rattle.reader.specs.Described.{Reads}
 use Rattle.reader.specs.declared.Cursor.{Cursor}
 use Rattle.reader.specs.declared.Read.{Read}
@@ -37,18 +35,18 @@ module _ {s : Bytes} {from : ℕ} {first here : Cursor} (g : Going s from first 
   -- What a turn has read is what the comment gives.
   pub going-ends : {m : Turned} {r : Read} → m ≡ Done r → TurnsAny s (comment-turn s from (here .st)) m → ReadsAny s (comment s from (first .st)) r
   going-ends {m} {r} e h name f =
-      subst (λ t. Reads s name f t r) (sym (comment-unroll s from (here .st) clean) ∙ g .same)
+      subst (λ t. Reads s name f t r) (sym (comment-unroll s from (here .st) (clean, g .inside .mode)) ∙ g .same)
       (turned-done s name f (comment-turn s from (here .st)) (comment s from) r ((rw e at h) name f))
 
   -- what holds of the state where a turn goes on
   abbrev Kept : State → Type 0
-  Kept b = (Stands s b × (b .mode ≡ 1)) × (Clean s (b .offset) × (rest s (b .offset) < rest s (here .st .offset)))
+  Kept b = (Stands s b × (b .mode ≡ 1)) × ((Clean s (b .offset) × (b .mode ≡ 1)) × (rest s (b .offset) < rest s (here .st .offset)))
 
   kept : Leads Kept Any (comment-turn s from (here .st))
   kept =
       leads-both _ _ _ _ (comment-turn s from (here .st))
       (comment-turn-stands s from (here .st) (g .inside .standing .stands) (g .inside .mode))
-      (comment-falls s from .at (here .st) clean)
+      (comment-falls s from .at (here .st) (clean, g .inside .mode))
 
   module _ {m : Turned} {p : Cursor} (e : m ≡ Again p) (h : TurnsAny s (comment-turn s from (here .st)) m) where
     on : GoesOn s [] [] Kept (comment-turn s from (here .st)) (comment s from) p
@@ -58,7 +56,7 @@ module _ {s : Bytes} {from : ℕ} {first here : Cursor} (g : Going s from first 
     pub going-on : Going s from first p
     going-on = record {
       inside = record { standing = record { stands = on .holds .0 .0; cached = on .known }; mode = on .holds .0 .1 };
-      same = sym (on .same) ∙ sym (comment-unroll s from (here .st) clean) ∙ g .same;
+      same = sym (on .same) ∙ sym (comment-unroll s from (here .st) (clean, g .inside .mode)) ∙ g .same;
     }
 
     -- Something was read.

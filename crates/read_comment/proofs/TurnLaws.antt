@@ -15,7 +15,7 @@ use Rattle.definition.specs.Comment.{comment-stop, terminate, comment-turn}
 use Rattle.definition.specs.declared.State.{State}
 use Rattle.definition.specs.declared.Match.the-variants.{To}
 use Rattle.laws_progress.proofs.Walks.{Onward, walk-within, star-walks}
-use Rattle.laws_progress.proofs.Comments.{after-walks, two-onward}
+use Rattle.laws_progress.proofs.Scans.{after-walks, two-onward}
 use Rattle.star.specs.Stops.{goes-on}
 use Rattle.laws_run.proofs.Moving.{walk-stands}
 use Rattle.reader.specs.Described.{Known-at}

@@ -105,9 +105,9 @@ module _ {s : Bytes} (name : Bytes) {at : Cursor} {e : ℕ} (h : Chose s at e) (
       rw q (record { sized = part-sized h w; describes = λ f. part-describes s name f i m w })
 
   -- a text of the tables
-  pub token-gives : (w : ℕ) → w < 53 → Gives s name (Text (119 + w)) (cps (entry op-tokens w .2))
+  pub token-gives : (w : ℕ) → w < 53 → Gives s name (Text (119 + w)) (cps (entry op-tokens w .text))
   token-gives w l =
-      let q : getD texts (119 + w) [] ≡ cps (entry op-tokens w .2) = entry-text (119 + w) (omega arith) ∙ ap (λ (x : Entry). cps (x .2)) (token-entry w l) in
+      let q : getD texts (119 + w) [] ≡ cps (entry op-tokens w .text) = entry-text (119 + w) (omega arith) ∙ ap (λ (x : Entry). cps (x .text)) (token-entry w l) in
       subst (Gives s name (Text (119 + w))) q (record { sized = text-sized (omega arith); describes = λ f. text-describes (omega arith) })
 
   pub less-gives : Gives s name (Text 180) (cps "<")

@@ -5,7 +5,7 @@ use mathlib.Core.List.{List, [], _∷_}
 use lib.ListN.{getD}
 use Rattle.definition.specs.Basics.{Bytes, again, done}
 use Rattle.definition.specs.Text.{lexeme}
-use Rattle.definition.specs.Tables.{constructors, uoperators, kw-op-rules, entry}
+use Rattle.definition.specs.Tables.{constructors, uoperators, kw-op-entry}
 use Rattle.definition.specs.Position.{cur-pos}
 use Rattle.definition.specs.State.{advance, new-line}
 use Rattle.definition.specs.Comment.{line-comment}
@@ -39,7 +39,7 @@ rule-list s name f st k e w =
     ∷ (10, number s st e (getD place-kinds k ""))
     ∷ (9, finish-word s st e constructors "NAME")
     ∷ (8, ident s st e)
-    ∷ (7, kw-op s st e (entry kw-op-rules w))
+    ∷ (7, kw-op s st e (kw-op-entry w))
     ∷ (6, char-lit s st e)
     ∷ (5, again (new-line (advance st e)))
     ∷ (4, again (advance st e))

@@ -29,9 +29,9 @@ kind-of k = kind (getD place-kinds k "")
 -- the kinds, by the tables of words; else by the place
 abbrev pub table-kinds : ℕ → List (ℕ × ℕ)
 table-kinds w =
-    (50, kind (entry mixfix-rules w .1))
-    ∷ (36, kind (entry op-tokens w .1))
-    ∷ (1, kind (entry early-literals w .1))
+    (50, kind (entry mixfix-rules w .kind))
+    ∷ (36, kind (entry op-tokens w .kind))
+    ∷ (1, kind (entry early-literals w .kind))
     ∷ []
 
 abbrev pub plain-kind : ℕ → ℕ → ℕ
@@ -42,7 +42,7 @@ abbrev pub plain-texts : Bytes → Bytes → State → ℕ → ℕ → List (ℕ
 plain-texts s name st e w =
     (50, lexeme s (st .offset) e)
     ∷ (37, cps "<")
-    ∷ (36, cps (entry op-tokens w .2))
+    ∷ (36, cps (entry op-tokens w .text))
     ∷ (32, lexeme s (st .offset + 2) (e - 2))
     ∷ (26, lexeme s (st .offset) (e - 1))
     ∷ (6, name ++ (cps "(" ++ (show (st .line) ++ cps ")")))

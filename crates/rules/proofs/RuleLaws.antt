@@ -12,7 +12,8 @@ use Rattle.definition.specs.Basics.{Bytes, done, mem-cp}
 use Rattle.definition.specs.Chars.{count-up}
 use Rattle.definition.specs.Select.{select}
 use Rattle.definition.specs.State.{advance, new-line}
-use Rattle.definition.specs.Token.{Token-turn, Rule, rules, any, act}
+use Rattle.definition.specs.Rules.{RAny, place-rules, rule-of as definition-rule}
+use Rattle.definition.specs.Token.{Token-turn, any, by-rule as done-by, act}
 use Rattle.definition.specs.declared.Choice.{Choice}
 use Rattle.definition.specs.declared.State.{State}
 use Rattle.lemmas.proofs.Cases.{by-test, both, either}
@@ -43,27 +44,28 @@ counted n (suc m) (suc k) d h = let q = counted (suc n) m k d (omega arith) in o
 
 module _ (s name f : Bytes) (st : State) where
   -- the rules of all places, by their numbers
-  rules-are : (e w : ℕ) → map (λ (r : Rule). r st e w) (rules s name f) ≡ map (λ (k : ℕ). does s name f (rule-of k) st k e w) (count-up 1 50)
-  unfolding rules rule-numbers place-kinds count-up
+  rules-are : (e w : ℕ) → map (done-by s name f st e) (place-rules w) ≡ map (λ (k : ℕ). does s name f (rule-of k) st k e w) (count-up 1 50)
+  unfolding place-rules rule-numbers place-kinds count-up
   rules-are e w = refl
 
   -- what is done with a choice
   act-is : (c : Choice) → c .place < 51 → act s name f st c ≡ does s name f (rule-of (c .place)) st (c .place) (c .end) (c .word)
-  unfolding act rule-numbers
-  act-is c h =
-      by-test (λ (t : Token-turn). t ≡ by (c .place)) (eqb (c .place) 0)
-      (λ t. sym (ap by (eqb-true (c .place) 0 t)))
-      (λ t.
-      let n : c .place ≡ 0 → ⊥ = eqb-false (c .place) 0 t in
-      let j = c .place - 1 in
-      let q : 1 + j ≡ c .place = omega arith in
-      sym (List·getD-map (λ (r : Rule). r st (c .end) (c .word)) (rules s name f) j (λ st e w. any s st))
-      ∙ ap (λ (l : List Token-turn). getD l j (any s st)) (rules-are (c .end) (c .word))
-      ∙ List·getD-map by (count-up 1 50) j 0
-      ∙ ap by (counted 1 50 j 0 (omega arith) ∙ q))
+  unfolding act definition-rule rule-numbers
+  act-is c h = go (c .place) h
     where
       by : ℕ → Token-turn
       by k = does s name f (rule-of k) st k (c .end) (c .word)
+
+      go : (k : ℕ) → k < 51 → done-by s name f st (c .end) (getD (RAny ∷ place-rules (c .word)) k RAny) ≡ by k
+      go zero l = refl
+      go (suc j) l =
+          sym (List·getD-map (done-by s name f st (c .end)) (place-rules (c .word)) j RAny)
+          ∙ ap (λ (l : List Token-turn). getD l j (any s st)) (rules-are (c .end) (c .word))
+          ∙ List·getD-map by (count-up 1 50) j 0
+          ∙ ap by (counted 1 50 j 0 (omega arith) ∙ next)
+        where
+          next : 1 + j ≡ suc j
+          next = omega arith
 
 -- ---- rules that give actions
 

@@ -15,7 +15,7 @@ use Rattle.definition.specs.declared.State.{State}
 use Rattle.definition.specs.declared.Extra.the-variants.{NoExtra}
 use Rattle.position.specs.Columns.{located}
 use Rattle.position.specs.declared.Located.{Located}
-use Rattle.laws_progress.proofs.Tokens.{token-unroll}
+use Rattle.laws_run.proofs.Steps.{token-unroll}
 use Rattle.reader.specs.Described.{Describes, Known-at, Reads, Turns}
 use Rattle.reader.specs.Standing.{Standing}
 use Rattle.reader.specs.declared.Cursor.{Cursor}

@@ -2,7 +2,7 @@
 use mathlib.Core.Path.{_≡_, refl, _∙_}
 use mathlib.Core.List.{[]}
 use lib.ListN.{length}
-use Rattle.laws_progress.proofs.Moves.{left}
+use Rattle.laws_run.specs.Left.{left}
 use Rattle.rules.proofs.RuleLaws.{rule-small, chosen-tabled}
 use Rattle.lookahead.proofs.SightLaws.{action-chose}
 use Rattle.fast_path.proofs.TokenLaws.{action-asks}

@@ -3,7 +3,7 @@
 use mathlib.Core.Path.{_≡_, refl, _∙_}
 use mathlib.Core.List.{[]}
 use lib.ListN.{length}
-use Rattle.laws_progress.proofs.Moves.{left}
+use Rattle.laws_run.specs.Left.{left}
 use Rattle.run_turn.specs.Running.{Going}
 use Rattle.run_turn.proofs.RunLaws.{between-any, going-starts, going-stops, going-on}
 use Rattle.lexer.proofs.ItemLaws.{behind}

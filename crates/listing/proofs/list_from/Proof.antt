@@ -4,7 +4,7 @@ use native.Mathlib.Omega.{arith}
 use lib.Seq.{length-take-le}
 use Rattle.definition.specs.Utf8.{encode, encode-all}
 use Rattle.definition.specs.Tables.{cps}
-use Rattle.laws_progress.proofs.Moves.{left}
+use Rattle.laws_run.specs.Left.{left}
 use Rattle.listing_lines.proofs.LineLaws.{wrote-within}
 use Rattle.listing_lines.specs.Rounds.{Told}
 use Rattle.listing_lines.proofs.RunsOn.{Going, going-starts, going-on, round-fewer, round-wrote, round-few, ends-refused, ends-all}

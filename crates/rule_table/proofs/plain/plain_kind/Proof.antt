@@ -32,12 +32,12 @@ returns c = kind-at-key _ _ 1 (c .before .match .keys1) (c .early-kind .ensures)
 returns-2 : tie.Need-returns-2
 returns-2 c =
     let q = c .before .before .match .keys2 in
-    kind-at-key _ _ 36 q (c .kind-at .ensures ∙ ap (λ (e : Entry). kind (e .1)) (token-entry _ (token-word (c .before .before .before .pre) q)))
+    kind-at-key _ _ 36 q (c .kind-at .ensures ∙ ap (λ (e : Entry). kind (e .kind)) (token-entry _ (token-word (c .before .before .before .pre) q)))
 
 returns-3 : tie.Need-returns-3
 returns-3 c =
     let q = c .before .before .match .keys3 in
-    kind-at-key _ _ 50 q (c .kind-at2 .ensures ∙ ap (λ (e : Entry). kind (e .1)) (mixfix-entry _ (mixfix-word (c .before .before .before .pre) q)))
+    kind-at-key _ _ 50 q (c .kind-at2 .ensures ∙ ap (λ (e : Entry). kind (e .kind)) (mixfix-entry _ (mixfix-word (c .before .before .before .pre) q)))
 
 returns-4 : tie.Need-returns-4
 returns-4 c = kind-without _ _ (c .before .match .rest) (c .kind-of .ensures)
