@@ -15,7 +15,7 @@ use Rattle.definition.specs.Token.{next-token, step}
 use Rattle.definition.specs.Run.{run-turn}
 use Rattle.definition.specs.declared.State.{State}
 use Rattle.laws_progress.proofs.Moves.{left}
-use Rattle.laws_progress.proofs.Fuel.{run-from}
+use Rattle.laws_progress.specs.Goings.{run-from}
 use Rattle.position.specs.AsciiRuns.{Plain}
 use Rattle.position.specs.declared.columns.AsciiRun.{AsciiRun}
 use Rattle.reader.specs.Standing.{Standing}

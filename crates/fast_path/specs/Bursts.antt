@@ -4,8 +4,8 @@ use mathlib.Core.Path.{_≡_}
 use mathlib.Core.List.{List, []}
 use lib.ListN.{length}
 use Rattle.definition.specs.Basics.{Bytes}
-use Rattle.laws_progress.proofs.Moves.{left}
-use Rattle.laws_progress.proofs.Fuel.{run-from}
+use Rattle.laws_progress.specs.Remaining.{left}
+use Rattle.laws_progress.specs.Goings.{run-from}
 use Rattle.reader.specs.declared.Cursor.{Cursor}
 use Rattle.run_turn.specs.Running.{writing, Between, StandsAhead}
 use Rattle.fast_path.specs.declared.Burst.{Burst}

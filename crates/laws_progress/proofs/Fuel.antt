@@ -1,6 +1,7 @@
 -- No fuel of the definition ever runs out. `loop` stands in ten definitions; for each, `..-enough` says that more fuel and
 -- another `out` change nothing, and `..-unroll` that it is what its first turn says, with itself for a further call. Where a
--- definition only begins a loop, the loop has a name, `..-from` or `show-onto`, and `..-is` says what the definition is by it.
+-- definition only begins a loop, the loop has a name, `..-from` or `show-onto`, and `..-is` says what the definition is by it. (Those that
+-- contracts of code speak of stand in specs/Goings.antt.)
 --   star          for any text and offset
 --   backtick      `match-backtick-ident`: for any text and offset
 --   no-comment    where the end that it is given is the text's; every choice of `select` has such an end
@@ -29,7 +30,6 @@ pub use Rattle.laws_progress.proofs.Scans.{
 pub use Rattle.laws_progress.proofs.Choices.{choice-clean}
 pub use Rattle.laws_progress.proofs.Comments.{comment-enough, comment-unroll}
 pub use Rattle.laws_progress.proofs.Literals.{
-  string-from,
   string-enough,
   string-unroll,
   string-is,
@@ -43,4 +43,4 @@ pub use Rattle.laws_progress.proofs.Literals.{
   lang-is,
 }
 pub use Rattle.laws_progress.proofs.Tokens.{token-enough, token-unroll}
-pub use Rattle.laws_progress.proofs.Items.{run-from, run-enough, run-unroll, run-is, run-ready, ready-step, reached-ready}
+pub use Rattle.laws_progress.proofs.Items.{run-enough, run-unroll, run-is, run-ready, ready-step, reached-ready}

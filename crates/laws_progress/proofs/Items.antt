@@ -22,6 +22,7 @@ use Rattle.definition.specs.Reading.{Reached, given, skipped, gave, carried}
 use Rattle.definition.specs.declared.State.{State}
 use Rattle.lemmas.proofs.Loops.{says, Leads, Falls, Any, loop-same, loop-unroll-by}
 use Rattle.lemmas.proofs.Cases.{by-test, by-lt, by-if, both-true}
+use Rattle.laws_progress.specs.Goings.{run-from}
 use Rattle.laws_progress.proofs.Walks.{Walk, here, walk-to, walk-within, star-walks, Clean, clean-walk}
 use Rattle.laws_progress.proofs.Moves.{awake, awake-small, left, Opened, reads-opened, Gives, Moves}
 use Rattle.laws_progress.proofs.Comments.{comment-gives}
@@ -55,26 +56,22 @@ module _ (s name f : Bytes) where
           L : Turn Writing Outcome → Type 0
           L = Leads (λ b. Opened (b .state) × (left s (b .state) < left s (a .state))) Any
 
-  -- the loop of `run-items`, from where a run stands
-  unfoldable pub run-from : Writing → Outcome
-  run-from a = loop (run-turn s name f) (stopped 0) (most-items s (a .state)) a
-
   -- its fuel is above what falls
   items-enough : (st : State) → left s st < most-items s st
   items-enough st = omega (arith, awake-small (st .mode))
 
   -- more fuel and another `out` change nothing
-  pub run-enough : (out : Writing → Outcome) (n : ℕ) (a : Writing) → Opened (a .state) → left s (a .state) < n → loop (run-turn s name f) out n a ≡ run-from a
+  pub run-enough : (out : Writing → Outcome) (n : ℕ) (a : Writing) → Opened (a .state) → left s (a .state) < n → loop (run-turn s name f) out n a ≡ run-from s name f a
   unfolding run-from
   run-enough out n a o h = loop-same run-falls out (stopped 0) n (most-items s (a .state)) a o h (items-enough (a .state))
 
   -- the loop is what its first turn says
-  pub run-unroll : (a : Writing) → Opened (a .state) → run-from a ≡ says (run-turn s name f a) run-from
+  pub run-unroll : (a : Writing) → Opened (a .state) → run-from s name f a ≡ says (run-turn s name f a) (run-from s name f)
   unfolding run-from
   run-unroll a o = loop-unroll-by run-falls (stopped 0) (λ b. most-items s (b .state)) (λ b _. items-enough (b .state)) a o
 
   -- what `run-items` is, by its loop
-  pub run-is : (st : State) (rs : List ℕ) (ps : Bytes) → run-items s name f st rs ps ≡ run-from (record { state = st; records = rs; payload = ps; count = 0; used = 0 })
+  pub run-is : (st : State) (rs : List ℕ) (ps : Bytes) → run-items s name f st rs ps ≡ run-from s name f (record { state = st; records = rs; payload = ps; count = 0; used = 0 })
   unfolding run-items run-from
   run-is st rs ps = refl
 

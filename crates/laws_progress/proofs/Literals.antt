@@ -27,6 +27,7 @@ use Rattle.definition.specs.declared.Match.{Match}
 use Rattle.definition.specs.declared.Match.the-variants.{To, Nothing}
 use Rattle.lemmas.proofs.Loops.{says, Leads, Falls, Any, loop-same, loop-unroll}
 use Rattle.lemmas.proofs.Cases.{by-test, by-lt, by-le, by-if-lt, by-match, either}
+use Rattle.laws_progress.specs.Goings.{string-from}
 use Rattle.laws_progress.proofs.Characters.{char-at}
 use Rattle.laws_progress.proofs.Walks.{
   rest,
@@ -149,22 +150,18 @@ module _ (s : Bytes) where
     pub string-falls : Falls (string-turn s f sp) (λ a. Any (a .0)) (λ a. rest s (a .0 .offset)) Any
     string-falls = reading-falls s 1 (λ a. a .0) (string-turn s f sp) Any Any (λ st b r c. c) (λ st b r d. d) string-leads
 
-    -- the loop of `string-lit`, with what is read of the literal
-    unfoldable pub string-from : State × Bytes → Step
-    string-from a = loop (string-turn s f sp) (λ a. lex-error s (a .0) 1 [] (cur-pos s (a .0)) (cur-pos s (a .0))) (fuel s) a
-
     -- more fuel and another `out` change nothing
-    pub string-enough : (out : State × Bytes → Step) (n : ℕ) (a : State × Bytes) → rest s (a .0 .offset) < n → loop (string-turn s f sp) out n a ≡ string-from a
+    pub string-enough : (out : State × Bytes → Step) (n : ℕ) (a : State × Bytes) → rest s (a .0 .offset) < n → loop (string-turn s f sp) out n a ≡ string-from s f sp a
     unfolding string-from
     string-enough out n a h = loop-same string-falls out _ n (fuel s) a tt h (omega arith)
 
     -- the loop is what its first turn says
-    pub string-unroll : (a : State × Bytes) → string-from a ≡ says (string-turn s f sp a) string-from
+    pub string-unroll : (a : State × Bytes) → string-from s f sp a ≡ says (string-turn s f sp a) (string-from s f sp)
     unfolding string-from
     string-unroll a = loop-unroll string-falls _ (fuel s) a tt (omega arith)
 
     -- what `string-lit` is, by its loop
-    pub string-is : (st : State) → string-lit s f st sp ≡ string-from (st, [])
+    pub string-is : (st : State) → string-lit s f st sp ≡ string-from s f sp (st, [])
     unfolding string-lit string-from
     string-is st = refl
 

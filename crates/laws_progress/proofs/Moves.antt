@@ -10,19 +10,8 @@ use Rattle.definition.specs.Basics.{Bytes, Turn, loop}
 use Rattle.definition.specs.Item.{Step}
 use Rattle.definition.specs.declared.State.{State}
 use Rattle.lemmas.proofs.Loops.{Leads, leads-map, Falls, Any, loop-keeps}
+pub use Rattle.laws_progress.specs.Remaining.{level, awake, left}
 use Rattle.laws_progress.proofs.Walks.{rest, Walk, Onward, walk-forward, walk-within, Clean, clean-walk}
-
--- the bytes and the levels of a comment that are left
-abbrev pub level : Bytes → State → ℕ
-level s st = rest s (st .offset) + st .depth
-
--- 1 until the reading has ended
-abbrev pub awake : ℕ → ℕ
-awake m = elim (eqb m 2) [ true ↦ 0 | false ↦ 1 ]
-
--- what falls with each item
-abbrev pub left : Bytes → State → ℕ
-left s st = level s st + awake (st .mode)
 
 -- in a comment, a level is open
 abbrev pub Opened : State → Type 0

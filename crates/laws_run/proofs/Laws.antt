@@ -19,7 +19,8 @@ use Rattle.lemmas.specs.Over.{over}
 use Rattle.lemmas.proofs.Cases.{by-test}
 use Rattle.lemmas.proofs.Loops.{says}
 use Rattle.state.proofs.Soundness.{sound-is}
-use Rattle.laws_progress.proofs.Items.{run-from, run-unroll, run-is}
+use Rattle.laws_progress.specs.Goings.{run-from}
+use Rattle.laws_progress.proofs.Items.{run-unroll, run-is}
 use Rattle.laws_run.specs.Budget.{budget}
 use Rattle.laws_run.proofs.Refusals.{run-accepted, accepted-run}
 use Rattle.laws_run.specs.Items.{Told, told, items-of}

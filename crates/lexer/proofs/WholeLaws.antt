@@ -7,7 +7,8 @@ use Rattle.definition.specs.Basics.{Bytes}
 use Rattle.definition.specs.Run.{Outcome, refusal, refused, run-items, run}
 use Rattle.definition.specs.Reading.{EveryReading}
 use Rattle.definition.specs.declared.State.{State}
-use Rattle.laws_run.proofs.Refusals.{Accepted, run-accepted}
+use Rattle.laws_run.specs.Accepted.{Accepted}
+use Rattle.laws_run.proofs.Refusals.{run-accepted}
 use Rattle.laws_run.proofs.Demand3.{every-reading}
 
 module _ (s name f : Bytes) (st : State) {n o : ℕ} (e : _≡_ {A = ℕ × ℕ} (n, o) (refusal s name f st)) where

@@ -17,7 +17,7 @@ use run_turn::turn;
 ghost use mathlib.Core.Path.{_≡_};
 ghost use Rattle.definition.specs.Run.{run-items, run};
 ghost use Rattle.definition.specs.Reading.{EveryReading};
-ghost use Rattle.laws_run.proofs.Refusals.{Accepted};
+ghost use Rattle.laws_run.specs.Accepted.{Accepted};
 
 // The items of a run that isn't refused: tokens as long as they follow one another, and then the item that stands ahead.
 fn run_items(

@@ -12,7 +12,7 @@ use Rattle.definition.specs.Item.{Step}
 use Rattle.definition.specs.Strings.{string-turn}
 use Rattle.definition.specs.declared.State.{State}
 use Rattle.lemmas.proofs.Loops.{Leads, loop-keeps}
-use Rattle.laws_progress.proofs.Literals.{string-from}
+use Rattle.laws_progress.specs.Goings.{string-from}
 use Rattle.read_string.specs.declared.moves.Move.{Move}
 use Rattle.read_string.specs.declared.moves.Move.the-variants.{Copy, Skip, Line, Char, Surrogate, Close, Open}
 use Rattle.read_string.specs.Moves.{string-move}

@@ -11,7 +11,8 @@ use Rattle.definition.specs.Strings.{string-turn}
 use Rattle.definition.specs.declared.Pos.{Pos}
 use Rattle.definition.specs.declared.State.{State}
 use Rattle.lemmas.proofs.Loops.{says}
-use Rattle.laws_progress.proofs.Literals.{string-from, string-unroll, string-is}
+use Rattle.laws_progress.specs.Goings.{string-from}
+use Rattle.laws_progress.proofs.Literals.{string-unroll, string-is}
 use Rattle.reader.specs.Described.{literal}
 use Rattle.read_string.specs.declared.moves.Move.{Move}
 use Rattle.read_string.specs.declared.moves.Move.the-variants.{Copy, Skip, Line, Char, Surrogate, Close, Open}

@@ -14,7 +14,8 @@ use Rattle.definition.specs.declared.Pos.{Pos}
 use Rattle.definition.specs.declared.State.{State}
 use Rattle.lemmas.proofs.Loops.{says, Leads}
 use Rattle.state.specs.Sound.{Stands}
-use Rattle.laws_progress.proofs.Literals.{string-from, string-unroll, string-is}
+use Rattle.laws_progress.specs.Goings.{string-from}
+use Rattle.laws_progress.proofs.Literals.{string-unroll, string-is}
 use Rattle.laws_run.proofs.Moving.{stands-within}
 use Rattle.laws_run.proofs.TurnsSound.{string-turn-stands}
 use Rattle.reader.specs.declared.Cursor.{Cursor}

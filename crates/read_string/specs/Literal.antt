@@ -14,7 +14,7 @@ use Rattle.definition.specs.Item.{Step, tok, lex-error}
 use Rattle.definition.specs.declared.Pos.{Pos}
 use Rattle.definition.specs.declared.State.{State}
 use Rattle.definition.specs.declared.Extra.the-variants.{NoExtra}
-use Rattle.laws_progress.proofs.Literals.{string-from}
+use Rattle.laws_progress.specs.Goings.{string-from}
 use Rattle.reader.specs.Described.{literal}
 use Rattle.read_string.specs.declared.moves.Move.{Move}
 use Rattle.read_string.specs.declared.moves.Move.the-variants.{Copy, Skip, Line, Char, Surrogate, Close, Open}

@@ -17,11 +17,12 @@ use Rattle.lemmas.proofs.Cases.{by-test, by-lt}
 use Rattle.lemmas.proofs.Loops.{says, Leads, Any}
 use Rattle.lemmas.proofs.Tails.{length-put}
 use Rattle.laws_progress.proofs.Moves.{left, awake-small}
-use Rattle.laws_progress.proofs.Fuel.{run-from, run-unroll, run-is}
+use Rattle.laws_progress.specs.Goings.{run-from}
+use Rattle.laws_progress.proofs.Fuel.{run-unroll, run-is}
 use Rattle.laws_run.proofs.Moving.{stands-within}
 use Rattle.laws_run.proofs.Steps.{step-stands}
 use Rattle.laws_run.proofs.Payloads.{payload-bound, budget-small}
-use Rattle.laws_run.proofs.Refusals.{Accepted}
+use Rattle.laws_run.specs.Accepted.{Accepted}
 use Rattle.reader.specs.declared.Cursor.{Cursor}
 use Rattle.reader.specs.Described.{Known-at}
 use Rattle.laws_run.proofs.Items.{step-left}

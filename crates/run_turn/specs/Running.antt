@@ -11,8 +11,8 @@ use Rattle.definition.specs.Token.{step}
 use Rattle.definition.specs.Run.{Outcome, Writing, run-items}
 use Rattle.definition.specs.declared.State.{State}
 use Rattle.definition.specs.declared.RunAnswer.{RunAnswer}
-use Rattle.laws_progress.proofs.Moves.{left}
-use Rattle.laws_progress.proofs.Fuel.{run-from}
+use Rattle.laws_progress.specs.Remaining.{left}
+use Rattle.laws_progress.specs.Goings.{run-from}
 use Rattle.state.specs.Sound.{Stands}
 use Rattle.laws_run.specs.Budget.{budget}
 use Rattle.reader.specs.declared.Cursor.{Cursor}
