@@ -1,6 +1,6 @@
 -- Soundness: `Moving` is what each change of a state keeps, `TurnsSound` one turn of each reader, `Readers` each reader as a whole, `Steps` the
 -- choices, the steps and every state that a run comes to; `Refusals` is what a run that isn't refused was given.
--- Demand 3: `Endings` says which items end the reading, `Demand3` is the demand over a run.
+-- Demand 3: `Endings` says which items end the reading, `Demand3` is the demand over a run, `SampleReadings` what it says of some texts.
 -- Payloads: `Sizes` is how long their parts are, `Spending` what each reader spends, `Payloads` the bound of a step.
 pub mod Moving
 pub mod TurnsSound
@@ -9,6 +9,7 @@ pub mod Steps
 pub mod Refusals
 pub mod Endings
 pub mod Demand3
+pub mod SampleReadings
 pub mod Sizes
 pub mod Spending
 pub mod Payloads
