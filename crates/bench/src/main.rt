@@ -58,7 +58,7 @@ fn runs(
     records: &mut [u32],
     payload: &mut [u8],
 ) -> Whole {
-    let started = state::start(1, 0);
+    let started = lexer::start(1, 0);
     let mut last = Whole {
         refusal: 0,
         items: 0,

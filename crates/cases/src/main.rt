@@ -1,4 +1,4 @@
-// Makes the calls that the frames of standard input ask for, `state::start`, `classes::check::class_check` or `lexer::run`, and
+// Makes the calls that the frames of standard input ask for, `lexer::start`, `lexer::class_check` or `lexer::run`, and
 // prints what each answers and leaves in its buffers. scripts/pack-cases makes the frames of the cases, and what is to be
 // printed; scripts/items and scripts/lint ask for the runs over a file.
 //
@@ -22,7 +22,7 @@
 // Before a run all that it is lent holds 4294967295 and 255, so these lines say what every number and byte holds behind it. A frame
 // that is cut short or too large, or asks for none of the calls, gets a line that says so and is the last.
 //
-// Proved: it ends and breaks nothing; what the calls answer is the definition's (crates `state`, `class_file`, `lexer`). What it
+// Proved: it ends and breaks nothing; what the calls answer is the definition's (crate `lexer`). What it
 // prints for the stored frames is compared with the file stdout. Assumed: what `libc` declares of reading and writing; a read that
 // fails counts as the end.
 mod print; // print.rt: the lines
@@ -124,7 +124,7 @@ fn print_state(s: State) {
 
 // Start takes the line and the line-start column of the state.
 fn answer_start(n: [u32; 16]) {
-    let answer = state::start(n[3], n[5]);
+    let answer = lexer::start(n[3], n[5]);
     say(b"start");
     print_numbers(&[n[1], answer.refusal]);
     print_state(answer.state);
@@ -132,7 +132,7 @@ fn answer_start(n: [u32; 16]) {
 
 fn answer_class_check(case: u32, classes: &[u8]) {
     say(b"classes");
-    print_numbers(&[case, class_file::check::class_check(classes)]);
+    print_numbers(&[case, lexer::class_check(classes)]);
     say(b"\n");
 }
 

@@ -14,22 +14,8 @@ use Rattle.definition.specs.declared.Sequence.{Sequence}
 use Rattle.definition.specs.declared.Sequence.the-variants.{Char, Bad, End}
 use Rattle.lemmas.proofs.Loops.{Leads, loop-keeps}
 use Rattle.lemmas.proofs.Cases.{by-test, by-lt}
+pub use Rattle.laws_progress.specs.Walks.{Walk, here, on, Onward, rest}
 use Rattle.laws_progress.proofs.Characters.{Tail, char-at, ascii-at}
-
--- from i one comes to e by whole characters
-pub data Walk (s : Bytes) : ℕ → ℕ → Type 0 where
-  here : {i e : ℕ} → i ≡ e → Walk s i e
-  on : {i e : ℕ} (c w : ℕ) → sequence-at s i ≡ Char c w → Walk s (i + w) e → Walk s i e
-
--- how much of the text is left behind an offset
-abbrev pub rest : Bytes → ℕ → ℕ
-rest s i = length s - i
-
--- a walk of a character or more
-pub record Onward (s : Bytes) (i e : ℕ) : Type 0 where
-  pub past : i < e
-  pub within : e ≤ length s
-  pub walk : Walk s i e
 
 -- one walk after another
 pub walk-walk : {s : Bytes} {i j e : ℕ} → Walk s i j → Walk s j e → Walk s i e

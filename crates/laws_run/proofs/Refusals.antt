@@ -1,6 +1,6 @@
 -- What a run that isn't refused has been given, and that it is refused otherwise. Rests on the meaning of the soundness test (crate
 -- `state`).
-use Prim.Native.Nat.{ℕ, _≤_}
+use Prim.Native.Nat.{ℕ}
 use mathlib.Core.Path.{_≡_, refl, sym, _∙_}
 use native.Mathlib.Omega.{arith}
 use lib.Dec.{eqb}
@@ -15,13 +15,7 @@ use Rattle.definition.specs.declared.State.{State}
 use Rattle.lemmas.proofs.Cases.{never, by-test, by-lt, by-if}
 use Rattle.state.specs.Sound.{Stands}
 use Rattle.state.proofs.Soundness.{sound-means, sound-is}
-
--- what a run may be given: a name that is not too long, a class file without fault, a legal text that is not too long, and a state
--- that is sound in it
-pub record Accepted (s name f : Bytes) (st : State) : Type 0 where
-  pub named : length name ≤ 4096
-  pub classes : class-check f ≡ 0
-  pub stands : Stands s st
+use Rattle.laws_run.specs.Accepted.{Accepted}
 
 module _ (s name f : Bytes) (st : State) where
   -- a run that isn't refused was given that

@@ -1,15 +1,15 @@
 -- What is left to read: it falls with each item, so that every run ends.
-use Prim.Native.Nat.{ℕ, _+_, _-_, _≤_}
+use Prim.Native.Nat.{ℕ, _+_, _≤_}
 use mathlib.Core.Path.{_≡_}
 use mathlib.Core.Bool.{true, false}
 use lib.Dec.{eqb}
-use lib.ListN.{length}
 use Rattle.definition.specs.Basics.{Bytes}
 use Rattle.definition.specs.declared.State.{State}
+use Rattle.laws_progress.specs.Walks.{rest}
 
 -- the bytes and the levels of a comment that are left
 abbrev pub level : Bytes → State → ℕ
-level s st = length s - st .offset + st .depth
+level s st = rest s (st .offset) + st .depth
 
 -- 1 until the reading has ended
 abbrev pub awake : ℕ → ℕ

@@ -1,4 +1,6 @@
--- `Left` is what is left to read, `Budget` what a run can still write of payloads, `Going` the loops of the definition gone on with.
+-- `Accepted` is what a run that isn't refused was given, `Left` what is left to read, `Budget` what can still be written of payloads,
+-- `Going` the loops of the definition gone on with.
+pub mod Accepted
 pub mod Left
 pub mod Budget
 pub mod Going

@@ -3,6 +3,6 @@
 // a sound state it comes to a sound state, its payload stays within a budget, far below 2^32 bytes over a run, whatever buffer is lent,
 // and its record says how long the payload is. So no fuel of the definition runs out (Fuel). A run that isn't refused was given a sound
 // state (Refusals); at each of its reading positions the choice is the longest and moves on, and error 6 is given exactly where it is
-// none of the places: demand 3 (Demand3). And document 01's laws for runs (Laws): a run that isn't refused hands back a sound state; what
+// none of the places: demand 3 (Demand3), which alone decides the choice at positions of sample texts (SampleReadings). And document 01's laws for runs (Laws): a run that isn't refused hands back a sound state; what
 // it wrote are steps of the definition, one after another, and the rest of both buffers is what it was; it stops for the reason that its
 // answer gives; and runs split by small buffers write the same items as one run does. Assumed: nothing.

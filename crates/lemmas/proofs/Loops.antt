@@ -5,16 +5,12 @@ use Prim.Native.Nat.{ℕ, zero, suc, _<_}
 use mathlib.Core.Path.{_≡_, refl, sym, ap, subst, _∙_}
 use native.Mathlib.Omega.{arith}
 use Rattle.definition.specs.Basics.{Turn, again, done, loop}
+pub use Rattle.lemmas.specs.Loops.{Leads}
 
 -- what a turn says, where k is what a further call answers
 abbrev pub says : {A R : Type 0} → Turn A R → (A → R) → R
 says (again b) k = k b
 says (done r) k = r
-
--- P holds of what a turn calls itself with, Q of what it answers
-abbrev pub Leads : {A R : Type 0} → (A → Type 0) → (R → Type 0) → Turn A R → Type 0
-Leads P Q (again b) = P b
-Leads P Q (done r) = Q r
 
 -- nothing is asked
 abbrev pub Any : {A : Type 0} → A → Type 0

@@ -1,12 +1,14 @@
-// Document 01's run, over a text, on numbers and lent buffers. (Its `start` and class check are `state::start` and
-// `classes::check::class_check`; tokens that follow one another are written by `bursts::write_tokens`, what that leaves by
-// `run_turns::turn`.)
+// Document 01's three operations, on numbers and lent buffers: `start`, `class_check` and `run`. A program that lexes calls
+// these three and needs no other crate of the lexer but `definition`, which has their types. (`start` and `class_check` are those of
+// crates `state` and `class_file`. Of a run, tokens that follow one another are written by `fast_path::write_tokens`, what that leaves by
+// `run_turn::turn`.)
 //
-// Proved: for every input `run` answers, and leaves both buffers, as the definition's `run` says, refusals included; and
-// for a run that isn't refused, demand 3 holds at every reading position. Assumed: nothing.
+// Proved: for every input each answers as the definition says, and `run` leaves both buffers so, refusals included. What `run` promises,
+// the three demands, stands in specs/Promises.antt. Assumed: nothing.
 use chars::ascii::op_char_table;
 use chars::ascii::symbolchar_table;
 use definition::RunAnswer;
+use definition::StartAnswer;
 use definition::State;
 use fast_path::write_tokens;
 use position::Cache;
@@ -15,9 +17,25 @@ use refusal::refusal;
 use run_turn::Went;
 use run_turn::turn;
 ghost use mathlib.Core.Path.{_≡_};
-ghost use Rattle.definition.specs.Run.{run-items, run};
-ghost use Rattle.definition.specs.Reading.{EveryReading};
-ghost use Rattle.laws_run.proofs.Refusals.{Accepted};
+ghost use Rattle.definition.specs.State.{start};
+ghost use Rattle.definition.specs.ClassFile.{class-check};
+ghost use Rattle.definition.specs.Run.{run-items};
+ghost use Rattle.laws_run.specs.Accepted.{Accepted};
+ghost use Rattle.lexer.specs.Promises.{RefusedOrCounted, AsDefined, LongestEverywhere};
+
+// Document 01's start: the state at the beginning of a text, at a line and a column.
+pub fn start(line: u32, column: u32) -> StartAnswer
+    ensures { λ r. ⌜ r ≡ start line column ⌝ }
+{
+    state::start(line, column)
+}
+
+// Document 01's class check: a refusal number, or 0 for a class file that a run takes.
+pub fn class_check(file: &[u8]) -> u32
+    ensures { λ r. ⌜ r ≡ class-check (now (file .entry)) ⌝ }
+{
+    class_file::check::class_check(file)
+}
 
 // The items of a run that isn't refused: tokens as long as they follow one another, and then the item that stands ahead.
 fn run_items(
@@ -89,7 +107,7 @@ fn run_items(
     }
 }
 
-// Document 01's run.
+// Document 01's run: a text's items from a saved state on, written into the lent buffers as far as they have room, or a refusal.
 pub fn run(
     text: &[u8],
     name: &[u8],
@@ -98,8 +116,9 @@ pub fn run(
     records: &mut [u32],
     payload: &mut [u8],
 ) -> RunAnswer
-    ensures outcome { λ r. ⌜ (r, now (records .exit), now (payload .exit)) ≡ run (now (text .entry)) (now (name .entry)) (now (classes .entry)) st (now (records .entry)) (now (payload .entry)) ⌝ }
-    ensures every_reading { λ r. ⌜ (r .refusal ≡ 0 → EveryReading (now (text .entry)) (now (name .entry)) (now (classes .entry)) st) ⌝ }
+    ensures refused_or_counted { λ r. ⌜ RefusedOrCounted (now (text .entry)) (now (name .entry)) (now (classes .entry)) st (now (records .entry)) (now (payload .entry)) (r, now (records .exit), now (payload .exit)) ⌝ }
+    ensures outcome { λ r. ⌜ AsDefined (now (text .entry)) (now (name .entry)) (now (classes .entry)) st (now (records .entry)) (now (payload .entry)) (r, now (records .exit), now (payload .exit)) ⌝ }
+    ensures every_reading { λ r. ⌜ LongestEverywhere (now (text .entry)) (now (name .entry)) (now (classes .entry)) st r ⌝ }
 {
     let refused = refusal(text, name, classes, st);
     if refused.number != 0 {

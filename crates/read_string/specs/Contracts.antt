@@ -8,7 +8,7 @@ use Rattle.definition.specs.ClassFile.{class-check}
 use Rattle.definition.specs.State.{advance}
 use Rattle.definition.specs.declared.Pos.{Pos}
 use Rattle.definition.specs.declared.State.{State}
-use Rattle.lemmas.proofs.Loops.{Leads}
+use Rattle.lemmas.specs.Loops.{Leads}
 use Rattle.state.specs.Sound.{Stands}
 use Rattle.reader.specs.Standing.{Standing}
 use Rattle.reader.specs.declared.Cursor.{Cursor}

@@ -16,7 +16,7 @@ use Rattle.definition.specs.declared.State.{State}
 use Rattle.definition.specs.declared.Extra.{Extra}
 use Rattle.definition.specs.declared.Extra.the-variants.{NoExtra}
 use Rattle.state.specs.Sound.{Stands}
-use Rattle.laws_progress.proofs.Walks.{Onward}
+use Rattle.laws_progress.specs.Walks.{Onward}
 use Rattle.reader.specs.Described.{bytes-of, Sized, Describes}
 use Rattle.reader.specs.Standing.{Standing}
 use Rattle.reader.specs.declared.Cursor.{Cursor}

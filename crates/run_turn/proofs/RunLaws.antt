@@ -22,7 +22,7 @@ use Rattle.laws_run.specs.Going.{run-from}
 use Rattle.laws_run.proofs.RunFuel.{run-unroll, run-is}
 use Rattle.laws_run.proofs.Moving.{stands-within}
 use Rattle.laws_run.proofs.Steps.{step-stands, payload-bound, budget-small}
-use Rattle.laws_run.proofs.Refusals.{Accepted}
+use Rattle.laws_run.specs.Accepted.{Accepted}
 use Rattle.reader.specs.declared.Cursor.{Cursor}
 use Rattle.reader.specs.Described.{Known-at}
 use Rattle.laws_run.proofs.Items.{step-left}

@@ -15,7 +15,7 @@ run-requires c κs = search needs
 round-of-requires : tie.Need-round-of-requires
 round-of-requires c κs =
     let r = c .before .before .before .before .before .before in
-    λ z. round-room _ _ _ _ _ _ (r .run .ensures .0) z (c .before .before .before .before .before .before .before .before .before .before .before .before .before .before .before .pre) (r .run .kept .1 .1 .1 .1 .0)
+    λ z. round-room _ _ _ _ _ _ (r .run .ensures .1 .0) z (c .before .before .before .before .before .before .before .before .before .before .before .before .before .before .before .pre) (r .run .kept .1 .1 .1 .1 .0)
 
 same-length : tie.Need-same-length
 same-length c = search needs
@@ -28,7 +28,7 @@ same-length-3 c = search needs
 
 returns : tie.Need-returns
 unfolding cps encode-all encode
-returns c = round-is _ _ _ _ (c .before .before .before .before .before .before .before .before .before .run .ensures .0) (c .before .before .round-of .ensures)
+returns c = round-is _ _ _ _ (c .before .before .before .before .before .before .before .before .before .run .ensures .1 .0) (c .before .before .round-of .ensures)
 
 pub run-once-spec : {M : Type 1} → statement M
 run-once-spec = tie.close (tie.spec slice-aggregate-run run-requires round-of-requires same-length same-length-2 same-length-3 returns)

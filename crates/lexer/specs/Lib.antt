@@ -1,0 +1,2 @@
+-- `Promises` is what `run` promises: the three demands.
+pub mod Promises
