@@ -6,10 +6,10 @@ use mathlib.Core.Bool.{Bool, true, false}
 use Rattle.definition.specs.Basics.{Bytes, ch}
 use Rattle.definition.specs.Text.{byte-has, byte-is, star}
 use Rattle.definition.specs.Chars.{is-digit, is-ident-char}
-use Rattle.definition.specs.Matchers.{_then_, later, only, plus, match-integer, match-floatp, skip-sign, is-e, match-floate, match-real, match-bad-number}
+use Rattle.definition.specs.Matchers.{_then_, later, only, plus, match-integer, match-floatp, skip-sign, is-e, match-real, match-bad-number}
 use Rattle.definition.specs.declared.Match.{Match}
 use Rattle.definition.specs.declared.Match.the-variants.{To, Nothing}
-use Rattle.match_number.specs.FloatParts.{point, fraction, exponent, exponent-behind, real-end, short-exponent, short-float, bad-number-behind}
+use Rattle.match_number.specs.FloatParts.{point, fraction, real-end, short-exponent, short-float, bad-number-behind}
 use Rattle.match_number.proofs.IntegerLaws.{then-of}
 use Rattle.laws_longest.proofs.ThreeEnds.{three-ends}
 
@@ -34,17 +34,7 @@ pub fraction-some : (s : Bytes) (m : Match) {j e : ℕ} → (m then point s) ≡
 fraction-some s m p q = ap To q ∙ ap (λ (n : Match). n then λ j. To (star is-digit s j)) (sym p) ∙ point-digits s m
 
 module _ (s : Bytes) (k : ℕ) where
-  -- Without its letter there is no exponent, whatever its digits.
-  pub exponent-no : byte-has is-e s k ≡ false → exponent s k ≡ Nothing
-  unfolding exponent
-  exponent-no e = rw e
-
-  -- With it the exponent is the digits behind the sign.
-  pub exponent-yes : {x : ℕ} → byte-has is-e s k ≡ true → x ≡ skip-sign s (k + 1) → match-integer s x ≡ exponent s k
-  unfolding exponent
-  exponent-yes e q = rw e (ap (match-integer s) q)
-
-  -- The same of the shortest: no letter,
+  -- The shortest exponent: no letter,
   pub short-no : byte-has is-e s k ≡ false → short-exponent s k ≡ Nothing
   unfolding short-exponent
   short-no e = rw e
@@ -64,21 +54,6 @@ then-then : (m : Match) (f g : ℕ → Match) → (m then f then g) ≡ (m then 
 then-then (To j) f g = refl
 then-then Nothing f g = refl
 
--- An exponent stands behind digits, or behind digits and a fraction.
-pub float-is : (s : Bytes) (m : Match) → later (m then exponent s) (m then fraction s then exponent s) ≡ (m then exponent-behind s)
-unfolding exponent-behind later
-float-is s (To j) = refl
-float-is s Nothing = refl
-
--- What is tried behind a fraction is tried behind its point and digits.
-behind-fraction : (s : Bytes) (j : ℕ) (f : ℕ → Match) → (fraction s j then f) ≡ only (byte-is (ch ".") s j) (f (star is-digit s (j + 1)))
-unfolding fraction
-behind-fraction s j f = go (byte-is (ch ".") s j)
-  where
-    go : (t : Bool) → (only t (To (star is-digit s (j + 1))) then f) ≡ only t (f (star is-digit s (j + 1)))
-    go true = refl
-    go false = refl
-
 -- `match-real` is an R behind a float.
 pub real-is : (s : Bytes) (i : ℕ) → (match-floatp s i then real-end s) ≡ match-real s i
 unfolding match-real real-end
@@ -93,15 +68,6 @@ floatp-is s i = refl
 pub real-of : (s : Bytes) (i : ℕ) {digits float r : Match} → r ≡ (float then real-end s) → digits ≡ match-integer s i → float ≡ (digits then fraction s)
     → r ≡ match-real s i
 real-of s i p q h = then-of (real-end s) p (then-of (fraction s) h q ∙ floatp-is s i) ∙ real-is s i
-
--- `match-floate` is an exponent behind them.
-pub floate-is : (s : Bytes) (i : ℕ) → (match-integer s i then exponent-behind s) ≡ match-floate s i
-unfolding match-floate exponent-behind exponent
-floate-is s i = go (match-integer s i)
-  where
-    go : (m : Match) → (m then exponent-behind s) ≡ (m then λ j. later (exponent s j) (only (byte-is (ch ".") s j) (exponent s (star is-digit s (j + 1)))))
-    go (To j) = ap (later (exponent s j)) (behind-fraction s j (exponent s))
-    go Nothing = refl
 
 -- ---- numbers that go wrong
 
