@@ -9,7 +9,7 @@ use Rattle.definition.specs.Chars.{is-digit, is-ident-char}
 use Rattle.definition.specs.Matchers.{_then_, later, only, plus, match-integer, match-floatp, skip-sign, is-e, match-real, match-bad-number}
 use Rattle.definition.specs.declared.Match.{Match}
 use Rattle.definition.specs.declared.Match.the-variants.{To, Nothing}
-use Rattle.match_number.specs.FloatParts.{point, fraction, real-end, short-exponent, short-float, bad-number-behind}
+use Rattle.match_number.specs.FloatParts.{byte-end, point, fraction, real-end, short-exponent, short-float, bad-number-behind}
 use Rattle.match_number.proofs.IntegerLaws.{then-of}
 use Rattle.laws_longest.proofs.ThreeEnds.{three-ends}
 
@@ -17,7 +17,7 @@ use Rattle.laws_longest.proofs.ThreeEnds.{three-ends}
 
 -- Digits behind a point are a fraction.
 point-digits : (s : Bytes) (m : Match) → (m then point s then λ j. To (star is-digit s j)) ≡ (m then fraction s)
-unfolding point fraction
+unfolding byte-end fraction
 point-digits s (To j) = go (byte-is (ch ".") s j)
   where
     go : (t : Bool) → (only t (To (j + 1)) then λ j. To (star is-digit s j)) ≡ only t (To (star is-digit s (j + 1)))
@@ -56,7 +56,7 @@ then-then Nothing f g = refl
 
 -- `match-real` is an R behind a float.
 pub real-is : (s : Bytes) (i : ℕ) → (match-floatp s i then real-end s) ≡ match-real s i
-unfolding match-real real-end
+unfolding match-real byte-end
 real-is s i = refl
 
 -- `match-floatp` is a fraction behind the digits.
@@ -79,7 +79,7 @@ short-is s m = ap (later (m then short-exponent s)) (ap (λ (n : Match). n then 
 
 -- A number that goes wrong is identifier characters behind one of three ends, which are enough.
 pub bad-number-is : (s f : Bytes) (i : ℕ) → bad-number-behind s f (match-integer s i) (match-integer s i then fraction s) ≡ match-bad-number s f i
-unfolding bad-number-behind point short-exponent
+unfolding bad-number-behind byte-end short-exponent
 bad-number-is s f i =
     let wrong : Match → Match = λ m. m then plus (is-ident-char f) s in
     ap (λ (m : Match). later (wrong (match-integer s i)) (later (wrong (match-integer s i then point s)) (wrong m))) (short-is s (match-integer s i)) ∙ three-ends s f i

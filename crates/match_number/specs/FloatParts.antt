@@ -8,17 +8,21 @@ use Rattle.definition.specs.Matchers.{_then_, later, only, plus, skip-sign, is-
 use Rattle.definition.specs.declared.Match.{Match}
 use Rattle.definition.specs.declared.Match.the-variants.{To}
 
--- a point, behind digits that end at j
-unfoldable pub point : Bytes → ℕ → Match
-point s j = only (byte-is (ch ".") s j) (To (j + 1))
+-- the byte b, behind what ends at j
+unfoldable pub byte-end : ℕ → Bytes → ℕ → Match
+byte-end b s j = only (byte-is b s j) (To (j + 1))
+
+-- a point
+abbrev pub point : Bytes → ℕ → Match
+point = byte-end (ch ".")
 
 -- a point and digits
 unfoldable pub fraction : Bytes → ℕ → Match
 fraction s j = only (byte-is (ch ".") s j) (To (star is-digit s (j + 1)))
 
--- an R, behind a float that ends at j
-unfoldable pub real-end : Bytes → ℕ → Match
-real-end s j = only (byte-is (ch "R") s j) (To (j + 1))
+-- an R
+abbrev pub real-end : Bytes → ℕ → Match
+real-end = byte-end (ch "R")
 
 -- an exponent of one digit
 unfoldable pub short-exponent : Bytes → ℕ → Match

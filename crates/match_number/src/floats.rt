@@ -17,18 +17,18 @@ ghost use mathlib.Core.Path.{_≡_};
 ghost use Rattle.definition.specs.ClassFile.{class-check};
 ghost use Rattle.definition.specs.Chars.{is-ident-char};
 ghost use Rattle.definition.specs.Matchers.{_then_, plus, match-floatp, skip-sign, match-real, match-bad-number};
-ghost use Rattle.match_number.specs.FloatParts.{point, fraction, real-end, short-exponent, short-float, bad-number-behind};
+ghost use Rattle.match_number.specs.FloatParts.{byte-end, fraction, real-end, short-exponent, short-float, bad-number-behind};
 
 // ---- floats
 
-// The end of a point behind an integer's digits: the source's `floatp_min`.
-fn point_after(text: &[u8], digits: Match) -> Match
-    ensures { λ r. ⌜ r ≡ (digits then point (now (text .entry))) ⌝ }
+// The end of the byte b behind what another matcher found: a point behind digits is the source's `floatp_min`.
+fn byte_after(text: &[u8], m: Match, b: u8) -> Match
+    ensures { λ r. ⌜ r ≡ (m then byte-end b (now (text .entry))) ⌝ }
 {
-    let Match::To(j) = digits else {
+    let Match::To(j) = m else {
         return Match::Nothing;
     };
-    if byte_is(text, j, b'.') {
+    if byte_is(text, j, b) {
         return Match::To(j + 1);
     }
     Match::Nothing
@@ -38,7 +38,7 @@ fn point_after(text: &[u8], digits: Match) -> Match
 pub fn floatp_after(text: &[u8], digits: Match) -> Match
     ensures { λ r. ⌜ r ≡ (digits then fraction (now (text .entry))) ⌝ }
 {
-    let Match::To(j) = point_after(text, digits) else {
+    let Match::To(j) = byte_after(text, digits, b'.') else {
         return Match::Nothing;
     };
     Match::To(star_digit(text, j))
@@ -64,13 +64,7 @@ pub fn skip_sign(text: &[u8], k: usize) -> usize
 pub fn real_after(text: &[u8], float: Match) -> Match
     ensures { λ r. ⌜ r ≡ (float then real-end (now (text .entry))) ⌝ }
 {
-    let Match::To(j) = float else {
-        return Match::Nothing;
-    };
-    if byte_is(text, j, b'R') {
-        return Match::To(j + 1);
-    }
-    Match::Nothing
+    byte_after(text, float, b'R')
 }
 
 // Nothing calls it yet: request K7 asks for each place's own longest end.
@@ -135,7 +129,7 @@ pub fn bad_number_after(text: &[u8], file: &[u8], digits: Match, float: Match) -
 {
     let mut end = ident_chars_after(text, file, short_float(text, digits, float));
     end = later(
-        ident_chars_after(text, file, point_after(text, digits)),
+        ident_chars_after(text, file, byte_after(text, digits, b'.')),
         end,
     );
     later(ident_chars_after(text, file, digits), end)

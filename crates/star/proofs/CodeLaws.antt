@@ -13,7 +13,6 @@ use Rattle.definition.specs.declared.Sequence.{Sequence}
 use Rattle.definition.specs.declared.Sequence.the-variants.{Char}
 use Rattle.definition.specs.declared.Match.{Match}
 use Rattle.definition.specs.declared.Match.the-variants.{To, Nothing}
-use Rattle.utf8.proofs.Character.{char-read, char-within}
 use Rattle.laws_progress.proofs.Characters.{ascii-at}
 use Rattle.laws_progress.proofs.Matches.{Small}
 use Rattle.match_lit.proofs.ByteLaws.{has-within, has-past, has-inside}
@@ -31,10 +30,6 @@ module _ (p : ℕ → Bool) (s : Bytes) (i : ℕ) where
   test-within h is = is ∙ sym (has-within p s i h)
 
 -- ---- one character
-
--- A decoded character ends within the text.
-pub decoded-within : (s : Bytes) (i : ℕ) {q : Sequence} {c w : ℕ} → q ≡ sequence-at s i → q ≡ Char c w → i + w ≤ length s
-decoded-within s i read is = char-within (char-read (sym read ∙ is)) .1
 
 module _ (p : ℕ → Bool) (s : Bytes) (i : ℕ) where
   module _ (h : i < length s) (ascii : getD s i 0 < 0x80) where

@@ -292,3 +292,7 @@ pub char-within : {s : Bytes} {i c w : ℕ} → CharAt s i c w → (1 ≤ w) × 
 char-within {s} {i} {c} {w} a =
     let n : length (drop i s) ≡ length (encode c ++ drop (i + w) s) = ap length (a .bytes) in
     omega (arith, a .width, encode-size c .0, length-append (encode c) (drop (i + w) s), length-drop i s, length-drop (i + w) s)
+
+-- The same of one that the code read: q is its answer.
+pub decoded-within : (s : Bytes) (i : ℕ) {q : Sequence} {c w : ℕ} → q ≡ sequence-at s i → q ≡ Char c w → (1 ≤ w) × (i + w ≤ length s)
+decoded-within s i read is = char-within (char-read (sym read ∙ is))

@@ -2,8 +2,9 @@
 use mathlib.Core.Path.{sym, _∙_}
 use borrow.Author.Needs.{needs}
 use native.Mathlib.Omega.{arith}
+use Rattle.utf8.proofs.Character.{decoded-within}
 use Rattle.star.proofs.RunLaws.{one-end, one-other, ascii-ident}
-use Rattle.star.proofs.CodeLaws.{ascii-yes, ascii-no, decoded-within, decoded-yes, decoded-no}
+use Rattle.star.proofs.CodeLaws.{ascii-yes, ascii-no, decoded-yes, decoded-no}
 use Rattle.star.proofs.one_ident_char.Statement.{statement}
 use Rattle.star.proofs.one_ident_char.Tie as tie
 

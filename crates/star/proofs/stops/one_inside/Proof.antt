@@ -3,8 +3,9 @@ use mathlib.Core.Path.{sym, ap, _∙_}
 use mathlib.Core.Bool.{not}
 use borrow.Author.Needs.{needs}
 use native.Mathlib.Omega.{arith}
+use Rattle.utf8.proofs.Character.{decoded-within}
 use Rattle.star.proofs.RunLaws.{one-end, one-other}
-use Rattle.star.proofs.CodeLaws.{ascii-yes, ascii-no, decoded-within, decoded-yes, decoded-no}
+use Rattle.star.proofs.CodeLaws.{ascii-yes, ascii-no, decoded-yes, decoded-no}
 use Rattle.star.proofs.stops.one_inside.Statement.{statement}
 use Rattle.star.proofs.stops.one_inside.Tie as tie
 
