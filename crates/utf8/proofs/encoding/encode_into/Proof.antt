@@ -4,7 +4,7 @@ use mathlib.Core.List.{[], _∷_}
 use lib.ListN.{length-set}
 use borrow.Author.Needs.{needs}
 use Rattle.lemmas.proofs.Over.{stored}
-use Rattle.utf8.proofs.EncodingLaws.{one-byte, two-bytes, three-bytes, four-bytes, room-one, room-two, room-three, room-four}
+use Rattle.utf8.proofs.EncodingLaws.{encode-1, encode-2, encode-3, encode-4, room-one, room-two, room-three, room-four}
 use Rattle.utf8.proofs.encoding.encode_into.Statement.{statement}
 use Rattle.utf8.proofs.encoding.encode_into.Tie as tie
 
@@ -12,7 +12,7 @@ slice-write-out : tie.Need-slice-write-out
 slice-write-out c = omega (arith, room-one (c .before .pre) (c .if1 .taken))
 
 returns : tie.Need-returns
-returns c = stored _ (_ ∷ []) _ (one-byte _ (c .if1 .taken)) (c .before .pre .room)
+returns c = stored _ (_ ∷ []) _ (encode-1 _ (c .if1 .taken)) (c .before .pre .room)
 
 slice-write-out-2 : tie.Need-slice-write-out-2
 slice-write-out-2 c = omega (arith, room-two (c .before .before .pre) (c .before .if1 .left) (c .if2 .taken))
@@ -21,7 +21,7 @@ slice-write-out-3 : tie.Need-slice-write-out-3
 slice-write-out-3 c = simp length-set (omega (arith, room-two (c .before .before .pre) (c .before .if1 .left) (c .if2 .taken)))
 
 returns-2 : tie.Need-returns-2
-returns-2 c = stored _ (_ ∷ _ ∷ []) _ (two-bytes _ (c .before .if1 .left) (c .if2 .taken)) (c .before .before .pre .room)
+returns-2 c = stored _ (_ ∷ _ ∷ []) _ (encode-2 _ (c .before .if1 .left) (c .if2 .taken)) (c .before .before .pre .room)
 
 slice-write-out-4 : tie.Need-slice-write-out-4
 slice-write-out-4 c = omega (arith, room-three (c .before .before .before .pre) (c .before .if2 .left) (c .if3 .taken))
@@ -33,7 +33,7 @@ slice-write-out-6 : tie.Need-slice-write-out-6
 slice-write-out-6 c = simp length-set (omega (arith, room-three (c .before .before .before .pre) (c .before .if2 .left) (c .if3 .taken)))
 
 returns-3 : tie.Need-returns-3
-returns-3 c = stored _ (_ ∷ _ ∷ _ ∷ []) _ (three-bytes _ (c .before .if2 .left) (c .if3 .taken)) (c .before .before .before .pre .room)
+returns-3 c = stored _ (_ ∷ _ ∷ _ ∷ []) _ (encode-3 _ (c .before .if2 .left) (c .if3 .taken)) (c .before .before .before .pre .room)
 
 slice-write-out-7 : tie.Need-slice-write-out-7
 slice-write-out-7 c = omega (arith, room-four (c .before .before .before .pre) (c .if3 .left))
@@ -48,7 +48,7 @@ slice-write-out-10 : tie.Need-slice-write-out-10
 slice-write-out-10 c = simp length-set (omega (arith, room-four (c .before .before .before .pre) (c .if3 .left)))
 
 returns-4 : tie.Need-returns-4
-returns-4 c = stored _ (_ ∷ _ ∷ _ ∷ _ ∷ []) _ (four-bytes _ (c .if3 .left)) (c .before .before .before .pre .room)
+returns-4 c = stored _ (_ ∷ _ ∷ _ ∷ _ ∷ []) _ (encode-4 _ (c .if3 .left)) (c .before .before .before .pre .room)
 
 pub encode-into-spec : {M : Type 1} → statement M
 encode-into-spec =
