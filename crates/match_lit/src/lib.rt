@@ -44,11 +44,11 @@ pub fn byte_either(text: &[u8], i: usize, a: u8, b: u8) -> bool
     text[i] == b
 }
 
-// The byte b stands at i and at the offset after it.
-pub fn byte_twice(text: &[u8], i: usize, b: u8) -> bool
-    ensures { λ r. ⌜ r ≡ byte-is b (now (text .entry)) i && byte-is b (now (text .entry)) (i + 1) ⌝ }
+// The byte a stands at i, and b at the offset after it.
+pub fn byte_pair(text: &[u8], i: usize, a: u8, b: u8) -> bool
+    ensures { λ r. ⌜ r ≡ byte-is a (now (text .entry)) i && byte-is b (now (text .entry)) (i + 1) ⌝ }
 {
-    if byte_is(text, i, b) {
+    if byte_is(text, i, a) {
         return byte_is(text, i + 1, b);
     }
     false
@@ -103,7 +103,7 @@ pub fn no_comment(text: &[u8], i: usize, e: usize) -> usize
 {
     let mut j = i;
     while j + 1 < e {
-        if byte_twice(text, j, b'/') {
+        if byte_pair(text, j, b'/', b'/') {
             return j;
         }
         j += 1;

@@ -6,10 +6,10 @@ use mathlib.Core.Bool.{Bool, true, false}
 use Rattle.definition.specs.Basics.{Bytes, ch}
 use Rattle.definition.specs.Text.{byte-has, byte-is, star}
 use Rattle.definition.specs.Chars.{is-digit, is-ident-char}
-use Rattle.definition.specs.Matchers.{_then_, later, only, plus, match-integer, match-floatp, skip-sign, is-e, match-floate, match-real, match-bad-number}
+use Rattle.definition.specs.Matchers.{_then_, later, only, plus, match-integer, match-floatp, skip-sign, is-e, match-real, match-bad-number}
 use Rattle.definition.specs.declared.Match.{Match}
 use Rattle.definition.specs.declared.Match.the-variants.{To, Nothing}
-use Rattle.match_number.specs.FloatParts.{point, fraction, exponent, exponent-behind, real-end, short-exponent, short-float, bad-number-behind}
+use Rattle.match_number.specs.FloatParts.{byte-end, point, fraction, real-end, short-exponent, short-float, bad-number-behind}
 use Rattle.match_number.proofs.IntegerLaws.{then-of}
 use Rattle.laws_longest.proofs.ThreeEnds.{three-ends}
 
@@ -17,7 +17,7 @@ use Rattle.laws_longest.proofs.ThreeEnds.{three-ends}
 
 -- Digits behind a point are a fraction.
 point-digits : (s : Bytes) (m : Match) → (m then point s then λ j. To (star is-digit s j)) ≡ (m then fraction s)
-unfolding point fraction
+unfolding byte-end fraction
 point-digits s (To j) = go (byte-is (ch ".") s j)
   where
     go : (t : Bool) → (only t (To (j + 1)) then λ j. To (star is-digit s j)) ≡ only t (To (star is-digit s (j + 1)))
@@ -34,17 +34,7 @@ pub fraction-some : (s : Bytes) (m : Match) {j e : ℕ} → (m then point s) ≡
 fraction-some s m p q = ap To q ∙ ap (λ (n : Match). n then λ j. To (star is-digit s j)) (sym p) ∙ point-digits s m
 
 module _ (s : Bytes) (k : ℕ) where
-  -- Without its letter there is no exponent, whatever its digits.
-  pub exponent-no : byte-has is-e s k ≡ false → exponent s k ≡ Nothing
-  unfolding exponent
-  exponent-no e = rw e
-
-  -- With it the exponent is the digits behind the sign.
-  pub exponent-yes : {x : ℕ} → byte-has is-e s k ≡ true → x ≡ skip-sign s (k + 1) → match-integer s x ≡ exponent s k
-  unfolding exponent
-  exponent-yes e q = rw e (ap (match-integer s) q)
-
-  -- The same of the shortest: no letter,
+  -- The shortest exponent: no letter,
   pub short-no : byte-has is-e s k ≡ false → short-exponent s k ≡ Nothing
   unfolding short-exponent
   short-no e = rw e
@@ -64,24 +54,9 @@ then-then : (m : Match) (f g : ℕ → Match) → (m then f then g) ≡ (m then 
 then-then (To j) f g = refl
 then-then Nothing f g = refl
 
--- An exponent stands behind digits, or behind digits and a fraction.
-pub float-is : (s : Bytes) (m : Match) → later (m then exponent s) (m then fraction s then exponent s) ≡ (m then exponent-behind s)
-unfolding exponent-behind later
-float-is s (To j) = refl
-float-is s Nothing = refl
-
--- What is tried behind a fraction is tried behind its point and digits.
-behind-fraction : (s : Bytes) (j : ℕ) (f : ℕ → Match) → (fraction s j then f) ≡ only (byte-is (ch ".") s j) (f (star is-digit s (j + 1)))
-unfolding fraction
-behind-fraction s j f = go (byte-is (ch ".") s j)
-  where
-    go : (t : Bool) → (only t (To (star is-digit s (j + 1))) then f) ≡ only t (f (star is-digit s (j + 1)))
-    go true = refl
-    go false = refl
-
 -- `match-real` is an R behind a float.
 pub real-is : (s : Bytes) (i : ℕ) → (match-floatp s i then real-end s) ≡ match-real s i
-unfolding match-real real-end
+unfolding match-real byte-end
 real-is s i = refl
 
 -- `match-floatp` is a fraction behind the digits.
@@ -94,15 +69,6 @@ pub real-of : (s : Bytes) (i : ℕ) {digits float r : Match} → r ≡ (float th
     → r ≡ match-real s i
 real-of s i p q h = then-of (real-end s) p (then-of (fraction s) h q ∙ floatp-is s i) ∙ real-is s i
 
--- `match-floate` is an exponent behind them.
-pub floate-is : (s : Bytes) (i : ℕ) → (match-integer s i then exponent-behind s) ≡ match-floate s i
-unfolding match-floate exponent-behind exponent
-floate-is s i = go (match-integer s i)
-  where
-    go : (m : Match) → (m then exponent-behind s) ≡ (m then λ j. later (exponent s j) (only (byte-is (ch ".") s j) (exponent s (star is-digit s (j + 1)))))
-    go (To j) = ap (later (exponent s j)) (behind-fraction s j (exponent s))
-    go Nothing = refl
-
 -- ---- numbers that go wrong
 
 -- The shortest float with an exponent, in the definition's words.
@@ -113,7 +79,7 @@ short-is s m = ap (later (m then short-exponent s)) (ap (λ (n : Match). n then 
 
 -- A number that goes wrong is identifier characters behind one of three ends, which are enough.
 pub bad-number-is : (s f : Bytes) (i : ℕ) → bad-number-behind s f (match-integer s i) (match-integer s i then fraction s) ≡ match-bad-number s f i
-unfolding bad-number-behind point short-exponent
+unfolding bad-number-behind byte-end short-exponent
 bad-number-is s f i =
     let wrong : Match → Match = λ m. m then plus (is-ident-char f) s in
     ap (λ (m : Match). later (wrong (match-integer s i)) (later (wrong (match-integer s i then point s)) (wrong m))) (short-is s (match-integer s i)) ∙ three-ends s f i

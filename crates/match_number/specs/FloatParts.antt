@@ -1,32 +1,28 @@
--- Parts of the definition's matchers of floats and of numbers that go wrong that have a function of their own. The proofs of the matchers show that these are the
--- definition's own words.
+-- Parts of the definition's matchers of floats and of numbers that go wrong that have a function of their own. The proofs of the matchers
+-- show that these are the definition's own words.
 use Prim.Native.Nat.{ℕ, _+_}
 use Rattle.definition.specs.Basics.{Bytes, ch}
 use Rattle.definition.specs.Text.{byte-has, byte-is, star}
 use Rattle.definition.specs.Chars.{is-digit, is-ident-char}
-use Rattle.definition.specs.Matchers.{_then_, later, only, plus, match-integer, skip-sign, is-e}
+use Rattle.definition.specs.Matchers.{_then_, later, only, plus, skip-sign, is-e}
 use Rattle.definition.specs.declared.Match.{Match}
 use Rattle.definition.specs.declared.Match.the-variants.{To}
 
--- a point, behind digits that end at j
-unfoldable pub point : Bytes → ℕ → Match
-point s j = only (byte-is (ch ".") s j) (To (j + 1))
+-- the byte b, behind what ends at j
+unfoldable pub byte-end : ℕ → Bytes → ℕ → Match
+byte-end b s j = only (byte-is b s j) (To (j + 1))
+
+-- a point
+abbrev pub point : Bytes → ℕ → Match
+point = byte-end (ch ".")
 
 -- a point and digits
 unfoldable pub fraction : Bytes → ℕ → Match
 fraction s j = only (byte-is (ch ".") s j) (To (star is-digit s (j + 1)))
 
--- an exponent
-unfoldable pub exponent : Bytes → ℕ → Match
-exponent s k = only (byte-has is-e s k) (match-integer s (skip-sign s (k + 1)))
-
--- an exponent, or a point, digits and an exponent
-unfoldable pub exponent-behind : Bytes → ℕ → Match
-exponent-behind s j = later (exponent s j) (fraction s j then exponent s)
-
--- an R, behind a float that ends at j
-unfoldable pub real-end : Bytes → ℕ → Match
-real-end s j = only (byte-is (ch "R") s j) (To (j + 1))
+-- an R
+abbrev pub real-end : Bytes → ℕ → Match
+real-end = byte-end (ch "R")
 
 -- an exponent of one digit
 unfoldable pub short-exponent : Bytes → ℕ → Match

@@ -1,6 +1,6 @@
 // Floats, reals, and numbers that go wrong. A digit of an integer or of a fraction is read once: what may follow them is
 // looked for behind their ends by the functions named `.._after`, which take these ends, and which `select` runs; the source's
-// `match_floatp`, `match_floate`, `match_real` and `match_bad_number` are the same from an offset.
+// `match_floatp`, `match_real` and `match_bad_number` are the same from an offset.
 //
 // Proved: the answer of each public function is what the definition gives, at any offset of any bytes.
 // Assumed: nothing but what each function's `requires` says: a class file that `class_check` accepts where a class is
@@ -16,19 +16,19 @@ use star::star_digit;
 ghost use mathlib.Core.Path.{_≡_};
 ghost use Rattle.definition.specs.ClassFile.{class-check};
 ghost use Rattle.definition.specs.Chars.{is-ident-char};
-ghost use Rattle.definition.specs.Matchers.{_then_, plus, match-floatp, skip-sign, match-floate, match-real, match-bad-number};
-ghost use Rattle.match_number.specs.FloatParts.{point, fraction, exponent, real-end, short-exponent, exponent-behind, short-float, bad-number-behind};
+ghost use Rattle.definition.specs.Matchers.{_then_, plus, match-floatp, skip-sign, match-real, match-bad-number};
+ghost use Rattle.match_number.specs.FloatParts.{byte-end, fraction, real-end, short-exponent, short-float, bad-number-behind};
 
 // ---- floats
 
-// The end of a point behind an integer's digits: the source's `floatp_min`.
-fn point_after(text: &[u8], digits: Match) -> Match
-    ensures { λ r. ⌜ r ≡ (digits then point (now (text .entry))) ⌝ }
+// The end of the byte b behind what another matcher found: a point behind digits is the source's `floatp_min`.
+fn byte_after(text: &[u8], m: Match, b: u8) -> Match
+    ensures { λ r. ⌜ r ≡ (m then byte-end b (now (text .entry))) ⌝ }
 {
-    let Match::To(j) = digits else {
+    let Match::To(j) = m else {
         return Match::Nothing;
     };
-    if byte_is(text, j, b'.') {
+    if byte_is(text, j, b) {
         return Match::To(j + 1);
     }
     Match::Nothing
@@ -38,7 +38,7 @@ fn point_after(text: &[u8], digits: Match) -> Match
 pub fn floatp_after(text: &[u8], digits: Match) -> Match
     ensures { λ r. ⌜ r ≡ (digits then fraction (now (text .entry))) ⌝ }
 {
-    let Match::To(j) = point_after(text, digits) else {
+    let Match::To(j) = byte_after(text, digits, b'.') else {
         return Match::Nothing;
     };
     Match::To(star_digit(text, j))
@@ -60,53 +60,14 @@ pub fn skip_sign(text: &[u8], k: usize) -> usize
     k
 }
 
-// The end of an exponent: e or E, an optional sign, and digits.
-fn exponent(text: &[u8], k: usize) -> Match
-    ensures { λ r. ⌜ r ≡ exponent (now (text .entry)) k ⌝ }
-{
-    if byte_either(text, k, b'e', b'E') {
-        return match_integer(text, skip_sign(text, k + 1));
-    }
-    Match::Nothing
-}
-
-fn exponent_after(text: &[u8], m: Match) -> Match
-    ensures { λ r. ⌜ r ≡ (m then exponent (now (text .entry))) ⌝ }
-{
-    let Match::To(k) = m else {
-        return Match::Nothing;
-    };
-    exponent(text, k)
-}
-
-// The end of an exponent behind an integer's digits, or behind a point and digits there.
-fn floate_after(text: &[u8], digits: Match) -> Match
-    ensures { λ r. ⌜ r ≡ (digits then exponent-behind (now (text .entry))) ⌝ }
-{
-    let without_dot = exponent_after(text, digits);
-    let with_dot = exponent_after(text, floatp_after(text, digits));
-    later(without_dot, with_dot)
-}
-
-pub fn match_floate(text: &[u8], i: usize) -> Match
-    ensures { λ r. ⌜ r ≡ match-floate (now (text .entry)) i ⌝ }
-{
-    floate_after(text, match_integer(text, i))
-}
-
 // The end of an R behind a float.
 pub fn real_after(text: &[u8], float: Match) -> Match
     ensures { λ r. ⌜ r ≡ (float then real-end (now (text .entry))) ⌝ }
 {
-    let Match::To(j) = float else {
-        return Match::Nothing;
-    };
-    if byte_is(text, j, b'R') {
-        return Match::To(j + 1);
-    }
-    Match::Nothing
+    byte_after(text, float, b'R')
 }
 
+// Nothing calls it yet: request K7 asks for each place's own longest end.
 pub fn match_real(text: &[u8], i: usize) -> Match
     ensures { λ r. ⌜ r ≡ match-real (now (text .entry)) i ⌝ }
 {
@@ -168,12 +129,13 @@ pub fn bad_number_after(text: &[u8], file: &[u8], digits: Match, float: Match) -
 {
     let mut end = ident_chars_after(text, file, short_float(text, digits, float));
     end = later(
-        ident_chars_after(text, file, point_after(text, digits)),
+        ident_chars_after(text, file, byte_after(text, digits, b'.')),
         end,
     );
     later(ident_chars_after(text, file, digits), end)
 }
 
+// Nothing calls it yet: request K7 asks for each place's own longest end.
 pub fn match_bad_number(text: &[u8], file: &[u8], i: usize) -> Match
     requires { ⌜ class-check (now file) ≡ 0 ⌝ }
     ensures { λ r. ⌜ r ≡ match-bad-number (now (text .entry)) (now (file .entry)) i ⌝ }

@@ -71,6 +71,7 @@ pub fn suffix_after(text: &[u8], ends: IntegerEnds, suffix: &[u8]) -> Match
     )
 }
 
+// Nothing calls it yet: request K7 asks for each place's own longest end.
 pub fn match_int_suffix(text: &[u8], i: usize, suffix: &[u8]) -> Match
     ensures { λ r. ⌜ r ≡ match-int-suffix (now (text .entry)) i (now (suffix .entry)) ⌝ }
 {
@@ -102,6 +103,7 @@ pub fn usuffix_after(text: &[u8], ends: IntegerEnds, suffix: &[u8]) -> Match
     )
 }
 
+// Nothing calls it yet: request K7 asks for each place's own longest end.
 pub fn match_int_usuffix(text: &[u8], i: usize, suffix: &[u8]) -> Match
     ensures { λ r. ⌜ r ≡ match-int-usuffix (now (text .entry)) i (now (suffix .entry)) ⌝ }
 {

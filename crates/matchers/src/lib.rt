@@ -51,6 +51,7 @@ pub fn match_ident(text: &[u8], file: &[u8], i: usize) -> Match
     Match::Nothing
 }
 
+// Nothing calls it yet: request K7 asks for each place's own longest end.
 pub fn match_constructor(text: &[u8], file: &[u8], i: usize) -> Match
     requires { ⌜ class-check (now file) ≡ 0 ⌝ }
     ensures { λ r. ⌜ r ≡ match-constructor (now (text .entry)) (now (file .entry)) i ⌝ }

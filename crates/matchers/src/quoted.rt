@@ -8,7 +8,7 @@ use definition::Match;
 use definition::Octet;
 use definition::Sequence;
 use match_lit::byte_is;
-use match_lit::byte_twice;
+use match_lit::byte_pair;
 use star::hex_at;
 use utf8::characters::byte;
 use utf8::sequence_at;
@@ -130,7 +130,7 @@ fn backtick_part(text: &[u8], i: usize) -> Match
 pub fn match_backtick_ident(text: &[u8], i: usize) -> Match
     ensures { λ r. ⌜ r ≡ match-backtick-ident (now (text .entry)) i ⌝ }
 {
-    if !byte_twice(text, i, b'`') {
+    if !byte_pair(text, i, b'`', b'`') {
         return Match::Nothing;
     }
     let mut j = i + 2;
@@ -145,7 +145,7 @@ pub fn match_backtick_ident(text: &[u8], i: usize) -> Match
     if parts == 0 {
         return Match::Nothing;
     }
-    if byte_twice(text, j, b'`') {
+    if byte_pair(text, j, b'`', b'`') {
         return Match::To(j + 2);
     }
     Match::Nothing

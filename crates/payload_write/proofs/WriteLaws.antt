@@ -6,11 +6,9 @@ use mathlib.Core.List.{[], _++_}
 use native.Mathlib.Omega.{arith}
 use lib.ListN.{length, take, drop, length-append, length-drop}
 use Rattle.definition.specs.Basics.{Bytes}
-use Rattle.definition.specs.ClassFile.{class-check}
 use Rattle.lemmas.specs.Over.{over, Wrote}
 use Rattle.lemmas.proofs.Over.{length-over}
-use Rattle.reader.specs.declared.Payload.the-variants.{Literal}
-use Rattle.reader.specs.Described.{literal, Describes}
+use Rattle.reader.specs.Described.{literal}
 use Rattle.read_string.specs.declared.moves.Move.{Move}
 use Rattle.read_string.specs.declared.moves.Move.the-variants.{Copy, Skip, Line, Char, Surrogate, Close, Open}
 use Rattle.read_string.specs.Moves.{string-move}
@@ -32,11 +30,6 @@ pub record Writing (s f : Bytes) (from n : ℕ) (before : Bytes) (i at : ℕ) (n
   pub long : n ≡ length (literal s f from)
   pub room : n ≤ length before
   pub is : now ≡ over acc before
-
--- what a description says of a literal is what its writer asks for
-pub writes-described : {s name f : Bytes} {from n : ℕ} {bytes out : Bytes} → class-check f ≡ 0 → Describes s name f (Literal from n) bytes
-    → n ≤ length out → Writes s f from n out
-writes-described c d h = record { accepted = c; long = d .long ∙ ap length (sym (d .is)); room = h }
 
 -- nothing is written yet
 pub writing-starts : {s f : Bytes} {from n : ℕ} {out : Bytes} → Writes s f from n out → Writing s f from n out from 0 out

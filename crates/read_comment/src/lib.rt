@@ -11,7 +11,7 @@ pub mod line_comments; // line_comments.rt: line comments
 use definition::Extra;
 use definition::Item;
 use definition::Match;
-use match_lit::byte_is;
+use match_lit::byte_pair;
 use matchers::match_newline;
 use position::pos_of;
 use reader::Cursor;
@@ -24,23 +24,9 @@ use star::stops::after;
 use star::stops::run_end;
 use trim_lines::trim_width;
 use trim_lines::trimmed_length;
-ghost use mathlib.Core.Path.{_≡_};
-ghost use mathlib.Core.Bool.{_&&_};
-ghost use Prim.Native.Nat.{_+_};
-ghost use Rattle.definition.specs.Text.{byte-is};
 ghost use Rattle.definition.specs.Comment.{terminate, comment-turn, comment};
 ghost use Rattle.read_comment.specs.LineCommentContracts.{ReadsAny};
 ghost use Rattle.read_comment.specs.CommentContracts.{InComment, AtStop, AtMark, Ending, TurnsAny};
-
-// Two bytes stand at i.
-fn byte_pair(text: &[u8], i: usize, a: u8, b: u8) -> bool
-    ensures { λ r. ⌜ r ≡ byte-is a (now (text .entry)) i && byte-is b (now (text .entry)) (i + 1) ⌝ }
-{
-    if byte_is(text, i, a) {
-        return byte_is(text, i + 1, b);
-    }
-    false
-}
 
 // The piece that began at byte `from` and whose text ends at byte `to`; the reader stands behind it.
 fn terminate(text: &[u8], from: usize, to: usize, closed: bool, at: Cursor) -> Read

@@ -14,7 +14,7 @@ use lib.ListN.{length, getD, drop}
 use lib.Seq.{getD-drop}
 use borrow.Author.Tests.{lt-ltb, le-ltb, leb-false}
 use Rattle.definition.specs.Basics.{Bytes, ch, between}
-use Rattle.definition.specs.Utf8.{encode, sequence-at}
+use Rattle.definition.specs.Utf8.{sequence-at}
 use Rattle.definition.specs.Text.{with-char, byte-has, star}
 use Rattle.definition.specs.Chars.{ascii-limit, ascii-table, in-table, op-char-cps, symbolchar-cps, is-op-char, is-symbolchar, is-ident-char}
 use Rattle.definition.specs.Matchers.{only, one, plus}
@@ -26,6 +26,7 @@ use Rattle.definition.specs.declared.Match.the-variants.{To, Nothing}
 use Rattle.lemmas.proofs.Cases.{tests, by-outcome, by-lt, by-order}
 use Rattle.chars.specs.Parts.{ascii-ident-char}
 use Rattle.utf8.proofs.Reading.{read-end, No-char, with-none}
+use Rattle.utf8.proofs.EncodingLaws.{encode-1}
 use Rattle.utf8.proofs.Character.{char-read, char-within}
 use Rattle.utf8.proofs.Star.{star-on, star-stop, star-none, star-from}
 use Rattle.laws_progress.proofs.Characters.{ascii-at}
@@ -144,10 +145,8 @@ small-binary = small-or (small-is (ch "0") (omega arith)) (small-is (ch "1") (om
 
 -- A character of ASCII is its own byte.
 pub ascii-byte : (s : Bytes) (i : ℕ) {c w : ℕ} → sequence-at s i ≡ Char c w → c < 0x80 → getD s i 0 ≡ c
-unfolding encode
 ascii-byte s i {c} {w} e h =
-    let one : encode c ≡ c ∷ [] = simp tests in
-    let bytes : drop i s ≡ (c ∷ []) ++ drop (i + w) s = char-read e .bytes ∙ ap (λ (l : Bytes). l ++ drop (i + w) s) one in
+    let bytes : drop i s ≡ (c ∷ []) ++ drop (i + w) s = char-read e .bytes ∙ ap (λ (l : Bytes). l ++ drop (i + w) s) (encode-1 c h) in
     let front : getD (drop i s) 0 0 ≡ c = ap (λ (l : Bytes). getD l 0 0) bytes in
     ap (λ (k : ℕ). getD s k 0) (sym (add-zero i)) ∙ sym (getD-drop i s 0 0) ∙ front
 

@@ -1,9 +1,8 @@
 -- What the search finds is what trying every mixfix word gives: they all begin with a point. Rests on the laws of rows (crate `table_words`).
 use Prim.Native.Nat.{ℕ}
-use mathlib.Core.Path.{_≡_, refl, sym, ap, _∙_}
+use mathlib.Core.Path.{_≡_, refl, sym}
 use mathlib.Core.Bool.{false}
-use mathlib.Core.List.{List, []}
-use native.Mathlib.Omega.{arith}
+use mathlib.Core.List.{[]}
 use Rattle.definition.specs.Basics.{Bytes, ch}
 use Rattle.definition.specs.Utf8.{encode, encode-all}
 use Rattle.definition.specs.Text.{byte-is}
@@ -12,7 +11,7 @@ use Rattle.definition.specs.Matchers.{match-lit}
 use Rattle.definition.specs.Select.{none-at, try-words}
 use Rattle.definition.specs.declared.Match.{Match}
 use Rattle.table_words.specs.Rows.{Row, numbered, only-rows, try-rows}
-use Rattle.table_words.proofs.RowLaws.{words-rows, rows-left, starts-other, missing-start}
+use Rattle.table_words.proofs.RowLaws.{words-rows, all-left, starts-other, missing-start}
 
 -- They all begin with a point.
 mixfix-points : only-rows (λ (r : Row). starts-other (ch ".") (r .1)) (numbered 0 (words-of mixfix-rules)) ≡ []
@@ -30,8 +29,4 @@ module _ (s : Bytes) (i : ℕ) where
 
   -- Elsewhere there is none.
   pub mixfix-no : byte-is (ch ".") s i ≡ false → try-words i 50 lit 0 (words-of mixfix-rules) (none-at i) ≡ none-at i
-  unfolding try-rows
-  mixfix-no e =
-      words-rows i 50 lit 0 (words-of mixfix-rules) (none-at i)
-      ∙ rows-left i 50 lit (λ r. starts-other (ch ".") (r .1)) (λ r t. missing-start s i (ch ".") e (r .1) t) (numbered 0 (words-of mixfix-rules)) (none-at i) (omega arith)
-      ∙ ap (λ (rs : List Row). try-rows i 50 lit rs (none-at i)) mixfix-points
+  mixfix-no e = all-left i 50 lit (λ r. starts-other (ch ".") (r .1)) (λ r t. missing-start s i (ch ".") e (r .1) t) (words-of mixfix-rules) mixfix-points

@@ -12,7 +12,7 @@ use Rattle.definition.specs.Select.{none-at, try-words}
 use Rattle.definition.specs.declared.Match.{Match}
 use Rattle.lemmas.proofs.Members.{Rest, no-key}
 use Rattle.table_words.specs.Rows.{Row, numbered, try-rows, starts-with, tokens-at}
-use Rattle.table_words.proofs.RowLaws.{words-rows, rows-left, is-empty, other-start, past-end}
+use Rattle.table_words.proofs.RowLaws.{words-rows, rows-left, all-left, is-empty, other-start, past-end}
 use Rattle.table_op_tokens.proofs.Computed.{tokens-full, first-bytes, tokens-none}
 
 module _ (s : Bytes) (i : ℕ) where
@@ -22,11 +22,7 @@ module _ (s : Bytes) (i : ℕ) where
 
   -- Past the end there is none.
   pub token-past : length s ≤ i → try-words i 36 lit 0 (words-of op-tokens) (none-at i) ≡ none-at i
-  unfolding try-rows
-  token-past h =
-      words-rows i 36 lit 0 (words-of op-tokens) (none-at i)
-      ∙ rows-left i 36 lit (λ r. is-empty (r .1)) (λ r t. past-end s i h (r .1) t) (numbered 0 (words-of op-tokens)) (none-at i) (omega arith)
-      ∙ ap (λ (rs : List Row). try-rows i 36 lit rs (none-at i)) tokens-full
+  token-past h = all-left i 36 lit (λ r. is-empty (r .1)) (λ r t. past-end s i h (r .1) t) (words-of op-tokens) tokens-full
 
   module _ (h : i < length s) where
     -- Elsewhere only those that may stand where the byte does are tried,

@@ -12,35 +12,11 @@ use Rattle.definition.specs.Utf8.{encode, Scalar, tail-bits, two, three, three-
 use Rattle.definition.specs.declared.Sequence.{Sequence}
 use Rattle.definition.specs.declared.Sequence.the-variants.{Char, Bad, End}
 use Rattle.lemmas.proofs.Cases.{by-if-lt, tests}
+use Rattle.utf8.proofs.EncodingLaws.{encode-1, encode-2, encode-3, encode-4}
 use Rattle.utf8.proofs.Reading.{read-first, read-end, read-shift}
 use Rattle.utf8.specs.Chars.{CharAt}
 
 -- ---- what `encode` is, by the size of the code point
-
--- A code point below 80 is one byte.
-encode-1 : (c : ℕ) → c < 0x80 → encode c ≡ c ∷ []
-unfolding encode
-encode-1 c h = simp tests
-
--- One from 80 to 7FF is two.
-encode-2 : (c : ℕ) → 0x80 ≤ c → c < 0x800 → encode c ≡ (0xC0 + c / 64) ∷ (0x80 + c % 64) ∷ []
-unfolding encode
-encode-2 c h k = simp tests
-
--- One from 800 to FFFF is three.
-encode-3 : (c : ℕ) → 0x800 ≤ c → c < 0x10000 → encode c ≡ (0xE0 + c / 4096) ∷ (0x80 + c / 64 % 64) ∷ (0x80 + c % 64) ∷ []
-unfolding encode
-encode-3 c h k =
-    let h₁ : 0x80 ≤ c = omega arith in
-    simp tests
-
--- Any other is four.
-encode-4 : (c : ℕ) → 0x10000 ≤ c → encode c ≡ (0xF0 + c / 262144) ∷ (0x80 + c / 4096 % 64) ∷ (0x80 + c / 64 % 64) ∷ (0x80 + c % 64) ∷ []
-unfolding encode
-encode-4 c h =
-    let h₁ : 0x80 ≤ c = omega arith in
-    let h₂ : 0x800 ≤ c = omega arith in
-    simp tests
 
 -- What holds of each of the four shapes holds of the encoding.
 pub by-size : (P : Bytes → Type 0) (c : ℕ)
@@ -292,3 +268,7 @@ pub char-within : {s : Bytes} {i c w : ℕ} → CharAt s i c w → (1 ≤ w) × 
 char-within {s} {i} {c} {w} a =
     let n : length (drop i s) ≡ length (encode c ++ drop (i + w) s) = ap length (a .bytes) in
     omega (arith, a .width, encode-size c .0, length-append (encode c) (drop (i + w) s), length-drop i s, length-drop (i + w) s)
+
+-- The same of one that the code read: q is its answer.
+pub decoded-within : (s : Bytes) (i : ℕ) {q : Sequence} {c w : ℕ} → q ≡ sequence-at s i → q ≡ Char c w → (1 ≤ w) × (i + w ≤ length s)
+decoded-within s i read is = char-within (char-read (sym read ∙ is))

@@ -1,37 +1,12 @@
-// Reading a text: what stands at an offset, as a character, a byte and the offset after a character, and the first offset
-// where no legal UTF-8 sequence starts.
+// Reading a text: the byte at an offset, and the first offset where no legal UTF-8 sequence starts.
 // Proved: each public function is the definition's function of the same name, at any bytes and any offset, so no caller
 // owes anything.
 // Assumed: nothing.
 use crate::sequence_at;
-use definition::Letter;
-use definition::Match;
 use definition::Octet;
 use definition::Sequence;
 ghost use mathlib.Core.Path.{_≡_};
-ghost use Rattle.definition.specs.Text.{get, byte, next, first-bad};
-
-// The character at i.
-pub fn get(text: &[u8], i: usize) -> Letter
-    ensures { λ r. ⌜ r ≡ get (now (text .entry)) i ⌝ }
-{
-    match sequence_at(text, i) {
-        Sequence::Char(c, _) => Letter::Code(c),
-        Sequence::Bad => Letter::Past,
-        Sequence::End => Letter::Past,
-    }
-}
-
-// The offset after the character at i.
-pub fn next(text: &[u8], i: usize) -> Match
-    ensures { λ r. ⌜ r ≡ next (now (text .entry)) i ⌝ }
-{
-    match sequence_at(text, i) {
-        Sequence::Char(_, width) => Match::To(i + width),
-        Sequence::Bad => Match::Nothing,
-        Sequence::End => Match::Nothing,
-    }
-}
+ghost use Rattle.definition.specs.Text.{byte, first-bad};
 
 // The byte at i.
 pub fn byte(text: &[u8], i: usize) -> Octet

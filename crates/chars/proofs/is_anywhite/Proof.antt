@@ -7,9 +7,6 @@ use Rattle.chars.specs.Parts.{listed-white}
 use Rattle.chars.proofs.is_anywhite.Statement.{statement}
 use Rattle.chars.proofs.is_anywhite.Tie as tie
 
-is-listed-white-requires : tie.Need-is-listed-white-requires
-is-listed-white-requires c κs = search needs
-
 returns : tie.Need-returns
 unfolding is-anywhite listed-white
 returns c = rw (is-anywhite, sym (c .before .is-listed-white .ensures) ∙ c .if1 .taken)
@@ -18,9 +15,6 @@ returns-2 : tie.Need-returns-2
 unfolding is-anywhite listed-white
 returns-2 c = rw (is-anywhite, sym (c .before .before .is-listed-white .ensures) ∙ c .before .if1 .left, lt-leb _ _ (c .if2 .taken))
 
-is-zs-requires : tie.Need-is-zs-requires
-is-zs-requires c κs = search needs
-
 returns-3 : tie.Need-returns-3
 unfolding is-anywhite listed-white
 returns-3 c =
@@ -28,5 +22,4 @@ returns-3 c =
     rw (is-anywhite, sym (a .before .is-listed-white .ensures) ∙ a .if1 .left, le-leb _ _ (c .before .if2 .left)) (c .is-zs .ensures)
 
 pub is-anywhite-spec : {M : Type 1} → statement M
-is-anywhite-spec =
-    tie.close (tie.spec is-listed-white-requires returns returns-2 is-zs-requires returns-3)
+is-anywhite-spec = tie.close (tie.spec (λ c κs. search needs) returns returns-2 (λ c κs. search needs) returns-3)

@@ -6,22 +6,13 @@ use Rattle.definition.specs.Chars.{is-constructor-start}
 use Rattle.chars.proofs.is_constructor_start.Statement.{statement}
 use Rattle.chars.proofs.is_constructor_start.Tie as tie
 
-between-requires : tie.Need-between-requires
-between-requires c κs = search needs
-
 returns : tie.Need-returns
 unfolding is-constructor-start
 returns c = rw (is-constructor-start, lt-ltb _ _ (c .before .if1 .taken)) (c .between .ensures)
 
-is-lu-requires : tie.Need-is-lu-requires
-is-lu-requires c κs = search needs
-
 returns-2 : tie.Need-returns-2
 unfolding is-constructor-start
 returns-2 c = rw (is-constructor-start, le-ltb _ _ (c .before .before .if1 .left), sym (c .before .is-lu .ensures) ∙ c .if2 .taken)
-
-is-lt-requires : tie.Need-is-lt-requires
-is-lt-requires c κs = search needs
 
 returns-3 : tie.Need-returns-3
 unfolding is-constructor-start
@@ -31,4 +22,6 @@ returns-3 c =
 
 pub is-constructor-start-spec : {M : Type 1} → statement M
 is-constructor-start-spec =
-    tie.close (tie.spec between-requires returns is-lu-requires returns-2 is-lt-requires returns-3)
+    tie.close
+    (tie.spec
+    (λ c κs. search needs) returns (λ c κs. search needs) returns-2 (λ c κs. search needs) returns-3)

@@ -7,22 +7,13 @@ use Rattle.chars.specs.Parts.{ascii-ident-char}
 use Rattle.chars.proofs.is_ident_char.Statement.{statement}
 use Rattle.chars.proofs.is_ident_char.Tie as tie
 
-is-ascii-ident-char-requires : tie.Need-is-ascii-ident-char-requires
-is-ascii-ident-char-requires c κs = search needs
-
 returns : tie.Need-returns
 unfolding is-ident-char ascii-ident-char
 returns c = rw (is-ident-char, lt-ltb _ _ (c .before .if1 .taken)) (c .is-ascii-ident-char .ensures)
 
-is-ll-requires : tie.Need-is-ll-requires
-is-ll-requires c κs = search needs
-
 returns-2 : tie.Need-returns-2
 unfolding is-ident-char
 returns-2 c = rw (is-ident-char, le-ltb _ _ (c .before .before .if1 .left), sym (c .before .is-ll .ensures) ∙ c .if2 .taken)
-
-is-lu-requires : tie.Need-is-lu-requires
-is-lu-requires c κs = search needs
 
 returns-3 : tie.Need-returns-3
 unfolding is-ident-char
@@ -34,9 +25,6 @@ returns-3 c =
       sym (a .before .is-ll .ensures) ∙ a .if2 .left,
       sym (c .before .is-lu .ensures) ∙ c .if3 .taken,
     )
-
-is-lo-requires : tie.Need-is-lo-requires
-is-lo-requires c κs = search needs
 
 returns-4 : tie.Need-returns-4
 unfolding is-ident-char
@@ -50,9 +38,6 @@ returns-4 c =
       sym (b .before .is-lu .ensures) ∙ b .if3 .left,
       sym (c .before .is-lo .ensures) ∙ c .if4 .taken,
     )
-
-is-lm-requires : tie.Need-is-lm-requires
-is-lm-requires c κs = search needs
 
 returns-5 : tie.Need-returns-5
 unfolding is-ident-char
@@ -72,13 +57,5 @@ pub is-ident-char-spec : {M : Type 1} → statement M
 is-ident-char-spec =
     tie.close
     (tie.spec
-    is-ascii-ident-char-requires
-    returns
-    is-ll-requires
-    returns-2
-    is-lu-requires
-    returns-3
-    is-lo-requires
-    returns-4
-    is-lm-requires
-    returns-5)
+    (λ c κs. search needs) returns (λ c κs. search needs) returns-2 (λ c κs. search needs) returns-3 (λ c κs. search needs)
+    returns-4 (λ c κs. search needs) returns-5)

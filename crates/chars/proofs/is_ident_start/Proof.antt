@@ -13,12 +13,9 @@ returns-2 : tie.Need-returns-2
 unfolding is-ident-start
 returns-2 c = rw (is-ident-start, ne-eqb _ _ (c .before .if1 .left), eq-eqb _ _ (c .if2 .taken))
 
-is-lower-requires : tie.Need-is-lower-requires
-is-lower-requires c κs = search needs
-
 returns-3 : tie.Need-returns-3
 unfolding is-ident-start
 returns-3 c = rw (is-ident-start, ne-eqb _ _ (c .before .before .if1 .left), ne-eqb _ _ (c .before .if2 .left)) (c .is-lower .ensures)
 
 pub is-ident-start-spec : {M : Type 1} → statement M
-is-ident-start-spec = tie.close (tie.spec returns returns-2 is-lower-requires returns-3)
+is-ident-start-spec = tie.close (tie.spec returns returns-2 (λ c κs. search needs) returns-3)

@@ -9,12 +9,9 @@ returns : tie.Need-returns
 unfolding is-uoperator
 returns c = rw (is-uoperator, lt-leb _ _ (c .if1 .taken))
 
-is-sm-requires : tie.Need-is-sm-requires
-is-sm-requires c κs = search needs
-
 returns-2 : tie.Need-returns-2
 unfolding is-uoperator
 returns-2 c = rw (is-uoperator, le-leb _ _ (c .before .if1 .left)) (c .is-sm .ensures)
 
 pub is-uoperator-spec : {M : Type 1} → statement M
-is-uoperator-spec = tie.close (tie.spec returns is-sm-requires returns-2)
+is-uoperator-spec = tie.close (tie.spec returns (λ c κs. search needs) returns-2)

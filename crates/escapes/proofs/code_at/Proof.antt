@@ -5,18 +5,6 @@ use Rattle.escapes.proofs.Behind.{code-of}
 use Rattle.escapes.proofs.code_at.Statement.{statement}
 use Rattle.escapes.proofs.code_at.Tie as tie
 
-sequence-at-requires : tie.Need-sequence-at-requires
-sequence-at-requires c κs = search needs
-
-enum-known-c : tie.Need-enum-known-c
-enum-known-c c = search needs
-
-enum-told : tie.Need-enum-told
-enum-told c = search needs
-
-enum-told-2 : tie.Need-enum-told-2
-enum-told-2 c = search needs
-
 returns : tie.Need-returns
 returns c =
     let d = c .before .before .before in
@@ -31,4 +19,5 @@ returns-3 c = sym (code-of _ _ (sym (c .before .before .sequence-at .ensures) �
 pub code-at-spec : {M : Type 1} → statement M
 code-at-spec =
     tie.close
-    (tie.spec sequence-at-requires enum-known-c enum-told enum-told-2 returns returns-2 returns-3)
+    (tie.spec
+    (λ c κs. search needs) (λ c. search needs) (λ c. search needs) (λ c. search needs) returns returns-2 returns-3)

@@ -17,9 +17,6 @@ abbrev μ-loop : tie.MeasureT-loop
 loop-holds : tie.Need-loop-holds Inv-loop μ-loop
 loop-holds c = hexed-starts _ _ _
 
-add-if1 : tie.Need-add-if1 Inv-loop μ-loop
-add-if1 c = omega arith
-
 returns : tie.Need-returns Inv-loop μ-loop
 returns c = hexed-ends (c .before .before .loop .inv) (inr (c .if1 .taken))
 
@@ -28,27 +25,12 @@ mul-value c =
     let l = c .before .before .loop in
     omega (arith, l .inv .small, most-small (l .i) (omega arith))
 
-add-digit-value : tie.Need-add-digit-value Inv-loop μ-loop
-add-digit-value c = omega arith
-
-shared-slice-read-digit-value : tie.Need-shared-slice-read-digit-value Inv-loop μ-loop
-shared-slice-read-digit-value c = omega arith
-
-digit-value-requires : tie.Need-digit-value-requires Inv-loop μ-loop
-digit-value-requires c κs = search needs
-
 add-value : tie.Need-add-value Inv-loop μ-loop
 add-value c =
     let l = c .before .before .before .before .loop in
     let k = c .before .before .before .before .before .before .args .k in
     omega
     (arith, l .inv .small, most-small (l .i) (omega arith), digit-small _ _ (c .digit-value .ensures), c .before .shared-slice-known2 .given (k + l .i))
-
-add-i : tie.Need-add-i Inv-loop μ-loop
-add-i c = omega arith
-
-loop-less : tie.Need-loop-less Inv-loop μ-loop
-loop-less c = omega arith
 
 loop-again : tie.Need-loop-again Inv-loop μ-loop
 loop-again c =
@@ -66,17 +48,5 @@ pub hex-value-spec : {M : Type 1} → statement M
 hex-value-spec =
     tie.close
     (tie.spec
-    Inv-loop
-    μ-loop
-    loop-holds
-    add-if1
-    returns
-    mul-value
-    add-digit-value
-    shared-slice-read-digit-value
-    digit-value-requires
-    add-value
-    add-i
-    loop-less
-    loop-again
-    returns-2)
+    Inv-loop μ-loop loop-holds (λ c. omega arith) returns mul-value (λ c. omega arith) (λ c. omega arith) (λ c κs. search needs)
+    add-value (λ c. omega arith) (λ c. omega arith) loop-again returns-2)

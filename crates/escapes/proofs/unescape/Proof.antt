@@ -6,20 +6,8 @@ use Rattle.escapes.proofs.Behind.{byte-read, unescape-past, unescape-pl
 use Rattle.escapes.proofs.unescape.Statement.{statement}
 use Rattle.escapes.proofs.unescape.Tie as tie
 
-byte-requires : tie.Need-byte-requires
-byte-requires c κs = search needs
-
-enum-known-first : tie.Need-enum-known-first
-enum-known-first c = search needs
-
-enum-told : tie.Need-enum-told
-enum-told c = search needs
-
 returns : tie.Need-returns
 returns c = unescape-past _ _ (sym (c .before .before .byte .ensures) ∙ c .enum-told .given .1)
-
-code-at-requires : tie.Need-code-at-requires
-code-at-requires c κs = search needs
 
 returns-2 : tie.Need-returns-2
 returns-2 c =
@@ -30,15 +18,6 @@ add-byte : tie.Need-add-byte
 add-byte c =
     let d = c .before .before in
     omega (arith, byte-read _ _ (sym (d .before .before .byte .ensures) ∙ d .first .given .1) .0)
-
-byte-requires-2 : tie.Need-byte-requires-2
-byte-requires-2 c κs = search needs
-
-enum-known-c : tie.Need-enum-known-c
-enum-known-c c = search needs
-
-enum-told-2 : tie.Need-enum-told-2
-enum-told-2 c = search needs
 
 returns-3 : tie.Need-returns-3
 returns-3 c =
@@ -61,16 +40,5 @@ pub unescape-spec : {M : Type 1} → statement M
 unescape-spec =
     tie.close
     (tie.spec
-    byte-requires
-    enum-known-first
-    enum-told
-    returns
-    code-at-requires
-    returns-2
-    add-byte
-    byte-requires-2
-    enum-known-c
-    enum-told-2
-    returns-3
-    escaped-requires
-    returns-4)
+    (λ c κs. search needs) (λ c. search needs) (λ c. search needs) returns (λ c κs. search needs) returns-2 add-byte
+    (λ c κs. search needs) (λ c. search needs) (λ c. search needs) returns-3 escaped-requires returns-4)

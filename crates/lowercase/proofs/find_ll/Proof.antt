@@ -19,40 +19,10 @@ abbrev μ-loop : tie.MeasureT-loop
 loop-holds : tie.Need-loop-holds Inv-loop μ-loop
 loop-holds c = narrow-start _ _ _ (sym ll-ranges-count)
 
-sub-mid : tie.Need-sub-mid Inv-loop μ-loop
-sub-mid c = search needs
-
-add-mid : tie.Need-add-mid Inv-loop μ-loop
-add-mid c = omega (arith, ll-ranges-count)
-
-mul-ll-number : tie.Need-mul-ll-number Inv-loop μ-loop
-mul-ll-number c = omega (arith, ll-ranges-count)
-
-ll-number-requires : tie.Need-ll-number-requires Inv-loop μ-loop
-ll-number-requires c κs = omega (arith, ll-ranges-count)
-
-loop-less : tie.Need-loop-less Inv-loop μ-loop
-loop-less c = search needs
-
 loop-again : tie.Need-loop-again Inv-loop μ-loop
 loop-again c =
     let t = c .before in
     narrow-high ll-ascends (t .before .before .loop .inv) _ (omega arith) (omega arith) (rw (t .ll-number .ensures ∙ flat-first ll-tbl _) at (c .if1 .taken))
-
-mul-ll-number-2 : tie.Need-mul-ll-number-2 Inv-loop μ-loop
-mul-ll-number-2 c = omega (arith, ll-ranges-count)
-
-add-ll-number : tie.Need-add-ll-number Inv-loop μ-loop
-add-ll-number c = omega (arith, ll-ranges-count)
-
-ll-number-requires-2 : tie.Need-ll-number-requires-2 Inv-loop μ-loop
-ll-number-requires-2 c κs = omega (arith, ll-ranges-count)
-
-add-low : tie.Need-add-low Inv-loop μ-loop
-add-low c = omega (arith, ll-ranges-count)
-
-loop-less-2 : tie.Need-loop-less-2 Inv-loop μ-loop
-loop-less-2 c = omega arith
 
 loop-again-2 : tie.Need-loop-again-2 Inv-loop μ-loop
 loop-again-2 c =
@@ -74,20 +44,13 @@ pub find-ll-spec : {M : Type 1} → statement M
 find-ll-spec =
     tie.close
     (tie.spec
-    Inv-loop
-    μ-loop
-    loop-holds
-    sub-mid
-    add-mid
-    mul-ll-number
-    ll-number-requires
-    loop-less
-    loop-again
-    mul-ll-number-2
-    add-ll-number
-    ll-number-requires-2
-    add-low
-    loop-less-2
-    loop-again-2
-    returns
-    returns-2)
+    Inv-loop μ-loop loop-holds (λ c. search needs)
+    (λ c. omega (arith, ll-ranges-count))
+    (λ c. omega (arith, ll-ranges-count))
+    (λ c κs. omega (arith, ll-ranges-count))
+    (λ c. search needs) loop-again
+    (λ c. omega (arith, ll-ranges-count))
+    (λ c. omega (arith, ll-ranges-count))
+    (λ c κs. omega (arith, ll-ranges-count))
+    (λ c. omega (arith, ll-ranges-count))
+    (λ c. omega arith) loop-again-2 returns returns-2)

@@ -8,30 +8,9 @@ use Rattle.lowercase.proofs.BlockLaws.{bit-told}
 use Rattle.lowercase.proofs.is_ll.Statement.{statement}
 use Rattle.lowercase.proofs.is_ll.Tie as tie
 
-block-letters-requires : tie.Need-block-letters-requires
-block-letters-requires c κs = search needs
-
-enum-known-letters : tie.Need-enum-known-letters
-enum-known-letters c = search needs
-
-enum-told : tie.Need-enum-told
-enum-told c = search needs
-
-find-ll-requires : tie.Need-find-ll-requires
-find-ll-requires c κs = search needs
-
-is-some-requires : tie.Need-is-some-requires
-is-some-requires c κs = search needs
-
 returns : tie.Need-returns
 unfolding is-ll
 returns c = c .is-some .ensures ∙ ap is-found (c .before .find-ll .ensures) ∙ found-in-ranges _ _
-
-cast-result : tie.Need-cast-result
-cast-result c = search needs
-
-shr-result : tie.Need-shr-result
-shr-result c = search needs
 
 returns-2 : tie.Need-returns-2
 returns-2 c =
@@ -42,12 +21,5 @@ pub is-ll-spec : {M : Type 1} → statement M
 is-ll-spec =
     tie.close
     (tie.spec
-    block-letters-requires
-    enum-known-letters
-    enum-told
-    find-ll-requires
-    is-some-requires
-    returns
-    cast-result
-    shr-result
-    returns-2)
+    (λ c κs. search needs) (λ c. search needs) (λ c. search needs) (λ c κs. search needs) (λ c κs. search needs) returns
+    (λ c. search needs) (λ c. search needs) returns-2)

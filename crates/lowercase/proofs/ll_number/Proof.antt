@@ -5,15 +5,9 @@ use Rattle.definition.specs.Lowercase.{ll-tbl, flat}
 use Rattle.lowercase.proofs.ll_number.Statement.{statement}
 use Rattle.lowercase.proofs.ll_number.Tie as tie
 
-mul-result : tie.Need-mul-result
-mul-result c = search needs
-
-array-read-result : tie.Need-array-read-result
-array-read-result c = search needs
-
 returns : tie.Need-returns
 unfolding flat ll-tbl
 returns c = refl
 
 pub ll-number-spec : {M : Type 1} → statement M
-ll-number-spec = tie.close (tie.spec mul-result array-read-result returns)
+ll-number-spec = tie.close (tie.spec (λ c. search needs) (λ c. search needs) returns)

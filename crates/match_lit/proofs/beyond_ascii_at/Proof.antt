@@ -9,11 +9,8 @@ use Rattle.match_lit.proofs.beyond_ascii_at.Tie as tie
 returns : tie.Need-returns
 returns c = sym (has-past _ _ _ (c .if1 .taken))
 
-shared-slice-read-result : tie.Need-shared-slice-read-result
-shared-slice-read-result c = search needs
-
 returns-2 : tie.Need-returns-2
 returns-2 c = sym (has-within (λ b. leb 0x80 b) _ _ (c .before .if1 .left))
 
 pub beyond-ascii-at-spec : {M : Type 1} → statement M
-beyond-ascii-at-spec = tie.close (tie.spec returns shared-slice-read-result returns-2)
+beyond-ascii-at-spec = tie.close (tie.spec returns (λ c. search needs) returns-2)

@@ -5,9 +5,6 @@ use borrow.Author.Needs.{needs}
 use Rattle.match_lit.proofs.byte_is.Statement.{statement}
 use Rattle.match_lit.proofs.byte_is.Tie as tie
 
-shared-slice-read-result : tie.Need-shared-slice-read-result
-shared-slice-read-result c = search needs
-
 returns : tie.Need-returns
 returns c = sym (has-within _ _ _ (c .before .if1 .taken))
 
@@ -15,4 +12,4 @@ returns-2 : tie.Need-returns-2
 returns-2 c = sym (has-past _ _ _ (c .if1 .left))
 
 pub byte-is-spec : {M : Type 1} → statement M
-byte-is-spec = tie.close (tie.spec shared-slice-read-result returns returns-2)
+byte-is-spec = tie.close (tie.spec (λ c. search needs) returns returns-2)

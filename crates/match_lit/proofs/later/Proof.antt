@@ -5,21 +5,9 @@ use borrow.Author.Needs.{needs}
 use Rattle.match_lit.proofs.later.Statement.{statement}
 use Rattle.match_lit.proofs.later.Tie as tie
 
-enum-known-a : tie.Need-enum-known-a
-enum-known-a c = search needs
-
-enum-told : tie.Need-enum-told
-enum-told c = search needs
-
 returns : tie.Need-returns
 unfolding later
 returns c = rw (c .enum-told .given .1)
-
-enum-known-b : tie.Need-enum-known-b
-enum-known-b c = search needs
-
-enum-told-2 : tie.Need-enum-told-2
-enum-told-2 c = search needs
 
 returns-2 : tie.Need-returns-2
 unfolding later
@@ -41,11 +29,4 @@ pub later-spec : {M : Type 1} → statement M
 later-spec =
     tie.close
     (tie.spec
-    enum-known-a
-    enum-told
-    returns
-    enum-known-b
-    enum-told-2
-    returns-2
-    returns-3
-    returns-4)
+    (λ c. search needs) (λ c. search needs) returns (λ c. search needs) (λ c. search needs) returns-2 returns-3 returns-4)

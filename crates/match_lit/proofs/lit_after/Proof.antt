@@ -3,20 +3,9 @@ use borrow.Author.Needs.{needs}
 use Rattle.match_lit.proofs.lit_after.Statement.{statement}
 use Rattle.match_lit.proofs.lit_after.Tie as tie
 
-enum-known-m : tie.Need-enum-known-m
-enum-known-m c = search needs
-
-enum-told : tie.Need-enum-told
-enum-told c = search needs
-
-returns : tie.Need-returns
-returns c = search needs
-
-match-lit-requires : tie.Need-match-lit-requires
-match-lit-requires c κs = search needs
-
 returns-2 : tie.Need-returns-2
 returns-2 c = rw (c .before .before .m .given .1) (c .match-lit .ensures)
 
 pub lit-after-spec : {M : Type 1} → statement M
-lit-after-spec = tie.close (tie.spec enum-known-m enum-told returns match-lit-requires returns-2)
+lit-after-spec =
+    tie.close (tie.spec (λ c. search needs) (λ c. search needs) (λ c. search needs) (λ c κs. search needs) returns-2)

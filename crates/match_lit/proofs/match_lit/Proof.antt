@@ -17,15 +17,6 @@ Inv-loop text word i at₀ j₀ at j = match-lit text (drop j word) at ≡ match
 abbrev μ-loop : tie.MeasureT-loop
 μ-loop text word i at₀ j₀ at j = length word - j
 
-loop-holds : tie.Need-loop-holds Inv-loop μ-loop
-loop-holds c = refl
-
-shared-slice-read-byte-is : tie.Need-shared-slice-read-byte-is Inv-loop μ-loop
-shared-slice-read-byte-is c = search needs
-
-byte-is-requires : tie.Need-byte-is-requires Inv-loop μ-loop
-byte-is-requires c κs = search needs
-
 returns : tie.Need-returns Inv-loop μ-loop
 returns c =
     let d = c .before .before .before in
@@ -33,12 +24,6 @@ returns c =
 
 add-at : tie.Need-add-at Inv-loop μ-loop
 add-at c = omega (arith, has-inside _ _ _ (sym (c .before .byte-is .ensures) ∙ not-false _ (c .if1 .left)))
-
-add-j : tie.Need-add-j Inv-loop μ-loop
-add-j c = search needs
-
-loop-less : tie.Need-loop-less Inv-loop μ-loop
-loop-less c = omega arith
 
 loop-again : tie.Need-loop-again Inv-loop μ-loop
 loop-again c =
@@ -52,14 +37,5 @@ pub match-lit-spec : {M : Type 1} → statement M
 match-lit-spec =
     tie.close
     (tie.spec
-    Inv-loop
-    μ-loop
-    loop-holds
-    shared-slice-read-byte-is
-    byte-is-requires
-    returns
-    add-at
-    add-j
-    loop-less
-    loop-again
-    returns-2)
+    Inv-loop μ-loop (λ c. refl) (λ c. search needs) (λ c κs. search needs) returns add-at (λ c. search needs) (λ c. omega arith)
+    loop-again returns-2)

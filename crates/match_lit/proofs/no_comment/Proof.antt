@@ -18,29 +18,17 @@ abbrev μ-loop : tie.MeasureT-loop
 loop-holds : tie.Need-loop-holds Inv-loop μ-loop
 loop-holds c = (c .before .pre .0, refl)
 
-add-loop : tie.Need-add-loop Inv-loop μ-loop
-add-loop c = omega arith
-
-byte-twice-requires : tie.Need-byte-twice-requires Inv-loop μ-loop
-byte-twice-requires c κs = search needs
-
 returns : tie.Need-returns Inv-loop μ-loop
 returns c =
     let d = c .before .before in
     let p = d .before .before .before .pre in
-    sym (cut-here _ _ _ (p .1) (d .loop-test .taken) (sym (c .before .byte-twice .ensures) ∙ c .if1 .taken)) ∙ d .before .loop .inv .1
-
-add-j : tie.Need-add-j Inv-loop μ-loop
-add-j c = omega arith
-
-loop-less : tie.Need-loop-less Inv-loop μ-loop
-loop-less c = omega arith
+    sym (cut-here _ _ _ (p .1) (d .loop-test .taken) (sym (c .before .byte-pair .ensures) ∙ c .if1 .taken)) ∙ d .before .loop .inv .1
 
 loop-again : tie.Need-loop-again Inv-loop μ-loop
 loop-again c =
     let d = c .before .before in
     let p = d .before .before .before .pre in
-    (omega arith, sym (cut-on _ _ _ (p .1) (d .loop-test .taken) (sym (c .before .byte-twice .ensures) ∙ c .if1 .left)) ∙ d .before .loop .inv .1)
+    (omega arith, sym (cut-on _ _ _ (p .1) (d .loop-test .taken) (sym (c .before .byte-pair .ensures) ∙ c .if1 .left)) ∙ d .before .loop .inv .1)
 
 returns-2 : tie.Need-returns-2 Inv-loop μ-loop
 returns-2 c =
@@ -51,13 +39,5 @@ pub no-comment-spec : {M : Type 1} → statement M
 no-comment-spec =
     tie.close
     (tie.spec
-    Inv-loop
-    μ-loop
-    loop-holds
-    add-loop
-    byte-twice-requires
-    returns
-    add-j
-    loop-less
-    loop-again
+    Inv-loop μ-loop loop-holds (λ c. omega arith) (λ c κs. search needs) returns (λ c. omega arith) (λ c. omega arith) loop-again
     returns-2)

@@ -5,15 +5,8 @@ use borrow.Author.Needs.{needs}
 use Rattle.match_number.proofs.match_int_usuffix.Statement.{statement}
 use Rattle.match_number.proofs.match_int_usuffix.Tie as tie
 
-any-integer-ends-requires : tie.Need-any-integer-ends-requires
-any-integer-ends-requires c κs = search needs
-
-usuffix-after-requires : tie.Need-usuffix-after-requires
-usuffix-after-requires c κs = search needs
-
 returns : tie.Need-returns
 returns c = ends-of _ _ _ (c .usuffix-after .ensures) (c .before .any-integer-ends .ensures) ∙ usuffix-is _ _ _
 
 pub match-int-usuffix-spec : {M : Type 1} → statement M
-match-int-usuffix-spec =
-    tie.close (tie.spec any-integer-ends-requires usuffix-after-requires returns)
+match-int-usuffix-spec = tie.close (tie.spec (λ c κs. search needs) (λ c κs. search needs) returns)

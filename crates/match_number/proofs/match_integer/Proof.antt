@@ -4,12 +4,9 @@ use borrow.Author.Needs.{needs}
 use Rattle.match_number.proofs.match_integer.Statement.{statement}
 use Rattle.match_number.proofs.match_integer.Tie as tie
 
-plus-digit-requires : tie.Need-plus-digit-requires
-plus-digit-requires c κs = search needs
-
 returns : tie.Need-returns
 unfolding match-integer
 returns c = c .plus-digit .ensures
 
 pub match-integer-spec : {M : Type 1} → statement M
-match-integer-spec = tie.close (tie.spec plus-digit-requires returns)
+match-integer-spec = tie.close (tie.spec (λ c κs. search needs) returns)

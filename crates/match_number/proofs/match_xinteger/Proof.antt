@@ -8,9 +8,6 @@ use native.Mathlib.Omega.{arith}
 use Rattle.match_number.proofs.match_xinteger.Statement.{statement}
 use Rattle.match_number.proofs.match_xinteger.Tie as tie
 
-byte-is-requires : tie.Need-byte-is-requires
-byte-is-requires c κs = search needs
-
 returns : tie.Need-returns
 unfolding match-xinteger
 returns c = rw (sym (c .before .byte-is .ensures) ∙ not-true _ (c .if1 .taken))
@@ -18,16 +15,10 @@ returns c = rw (sym (c .before .byte-is .ensures) ∙ not-true _ (c .if1 .taken)
 add-byte-either : tie.Need-add-byte-either
 add-byte-either c = omega (arith, has-inside _ _ _ (sym (c .before .byte-is .ensures) ∙ not-false _ (c .if1 .left)))
 
-byte-either-requires : tie.Need-byte-either-requires
-byte-either-requires c κs = search needs
-
 add-plus-hex : tie.Need-add-plus-hex
 add-plus-hex c =
     let z = c .before .before in
     omega (arith, has-inside _ _ _ (sym (z .before .byte-is .ensures) ∙ not-false _ (z .if1 .left)))
-
-plus-hex-requires : tie.Need-plus-hex-requires
-plus-hex-requires c κs = search needs
 
 returns-2 : tie.Need-returns-2
 unfolding match-xinteger
@@ -40,16 +31,10 @@ add-byte-either-2 c =
     let z = c .before .before in
     omega (arith, has-inside _ _ _ (sym (z .before .byte-is .ensures) ∙ not-false _ (z .if1 .left)))
 
-byte-either-requires-2 : tie.Need-byte-either-requires-2
-byte-either-requires-2 c κs = search needs
-
 add-plus-octal : tie.Need-add-plus-octal
 add-plus-octal c =
     let z = c .before .before .before .before in
     omega (arith, has-inside _ _ _ (sym (z .before .byte-is .ensures) ∙ not-false _ (z .if1 .left)))
-
-plus-octal-requires : tie.Need-plus-octal-requires
-plus-octal-requires c κs = search needs
 
 returns-3 : tie.Need-returns-3
 unfolding match-xinteger
@@ -67,16 +52,10 @@ add-byte-either-3 c =
     let z = c .before .before .before .before in
     omega (arith, has-inside _ _ _ (sym (z .before .byte-is .ensures) ∙ not-false _ (z .if1 .left)))
 
-byte-either-requires-3 : tie.Need-byte-either-requires-3
-byte-either-requires-3 c κs = search needs
-
 add-plus-binary : tie.Need-add-plus-binary
 add-plus-binary c =
     let z = c .before .before .before .before .before .before in
     omega (arith, has-inside _ _ _ (sym (z .before .byte-is .ensures) ∙ not-false _ (z .if1 .left)))
-
-plus-binary-requires : tie.Need-plus-binary-requires
-plus-binary-requires c κs = search needs
 
 returns-4 : tie.Need-returns-4
 unfolding match-xinteger
@@ -108,21 +87,6 @@ pub match-xinteger-spec : {M : Type 1} → statement M
 match-xinteger-spec =
     tie.close
     (tie.spec
-    byte-is-requires
-    returns
-    add-byte-either
-    byte-either-requires
-    add-plus-hex
-    plus-hex-requires
-    returns-2
-    add-byte-either-2
-    byte-either-requires-2
-    add-plus-octal
-    plus-octal-requires
-    returns-3
-    add-byte-either-3
-    byte-either-requires-3
-    add-plus-binary
-    plus-binary-requires
-    returns-4
-    returns-5)
+    (λ c κs. search needs) returns add-byte-either (λ c κs. search needs) add-plus-hex (λ c κs. search needs) returns-2
+    add-byte-either-2 (λ c κs. search needs) add-plus-octal (λ c κs. search needs) returns-3 add-byte-either-3
+    (λ c κs. search needs) add-plus-binary (λ c κs. search needs) returns-4 returns-5)

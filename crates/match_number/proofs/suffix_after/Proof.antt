@@ -4,18 +4,8 @@ use borrow.Author.Needs.{needs}
 use Rattle.match_number.proofs.suffix_after.Statement.{statement}
 use Rattle.match_number.proofs.suffix_after.Tie as tie
 
-lit-after-requires : tie.Need-lit-after-requires
-lit-after-requires c κs = search needs
-
-lit-after-requires-2 : tie.Need-lit-after-requires-2
-lit-after-requires-2 c κs = search needs
-
-later-requires : tie.Need-later-requires
-later-requires c κs = search needs
-
 returns : tie.Need-returns
 returns c = later-of (c .later .ensures) (c .before .before .lit-after .ensures) (c .before .lit-after2 .ensures)
 
 pub suffix-after-spec : {M : Type 1} → statement M
-suffix-after-spec =
-    tie.close (tie.spec lit-after-requires lit-after-requires-2 later-requires returns)
+suffix-after-spec = tie.close (tie.spec (λ c κs. search needs) (λ c κs. search needs) (λ c κs. search needs) returns)

@@ -7,23 +7,8 @@ use native.Mathlib.Omega.{arith}
 use Rattle.match_number.proofs.u_lit_after.Statement.{statement}
 use Rattle.match_number.proofs.u_lit_after.Tie as tie
 
-enum-known-m : tie.Need-enum-known-m
-enum-known-m c = search needs
-
-enum-told : tie.Need-enum-told
-enum-told c = search needs
-
-returns : tie.Need-returns
-returns c = search needs
-
-byte-either-requires : tie.Need-byte-either-requires
-byte-either-requires c κs = search needs
-
 add-match-lit : tie.Need-add-match-lit
 add-match-lit c = omega (arith, has-inside _ _ _ (sym (c .before .byte-either .ensures) ∙ c .if1 .taken))
-
-match-lit-requires : tie.Need-match-lit-requires
-match-lit-requires c κs = search needs
 
 returns-2 : tie.Need-returns-2
 unfolding usuffix
@@ -37,11 +22,5 @@ pub u-lit-after-spec : {M : Type 1} → statement M
 u-lit-after-spec =
     tie.close
     (tie.spec
-    enum-known-m
-    enum-told
-    returns
-    byte-either-requires
-    add-match-lit
-    match-lit-requires
-    returns-2
-    returns-3)
+    (λ c. search needs) (λ c. search needs) (λ c. search needs) (λ c κs. search needs) add-match-lit (λ c κs. search needs)
+    returns-2 returns-3)

@@ -1,33 +1,21 @@
 -- `match_ident` is the definition's `match-ident`: a character that may begin an identifier, and the run behind it.
 use mathlib.Core.Path.{sym, _∙_}
 use Rattle.definition.specs.Matchers.{match-ident}
-use Rattle.utf8.proofs.Character.{char-read, char-within}
+use Rattle.utf8.proofs.Character.{decoded-within}
 use Rattle.matchers.proofs.NameLaws.{head-yes, head-no, head-other}
 use borrow.Author.Needs.{needs}
 use native.Mathlib.Omega.{arith}
 use Rattle.matchers.proofs.match_ident.Statement.{statement}
 use Rattle.matchers.proofs.match_ident.Tie as tie
 
-sequence-at-requires : tie.Need-sequence-at-requires
-sequence-at-requires c κs = search needs
-
-enum-known-c : tie.Need-enum-known-c
-enum-known-c c = search needs
-
 returns : tie.Need-returns
 unfolding match-ident
 returns c = head-other _ _ _ _ (c .before .sequence-at .ensures) (c .match .keys2)
 
-is-ident-start-requires : tie.Need-is-ident-start-requires
-is-ident-start-requires c κs = search needs
-
 add-star-ident-char : tie.Need-add-star-ident-char
 add-star-ident-char c =
     let d = c .before .before .before in
-    omega (arith, char-within (char-read (sym (d .before .before .sequence-at .ensures) ∙ d .c .given .1)))
-
-star-ident-char-requires : tie.Need-star-ident-char-requires
-star-ident-char-requires c κs = search needs
+    omega (arith, decoded-within _ _ (d .before .before .sequence-at .ensures) (d .c .given .1))
 
 returns-2 : tie.Need-returns-2
 unfolding match-ident
@@ -45,11 +33,5 @@ pub match-ident-spec : {M : Type 1} → statement M
 match-ident-spec =
     tie.close
     (tie.spec
-    sequence-at-requires
-    enum-known-c
-    returns
-    is-ident-start-requires
-    add-star-ident-char
-    star-ident-char-requires
-    returns-2
+    (λ c κs. search needs) (λ c. search needs) returns (λ c κs. search needs) add-star-ident-char (λ c κs. search needs) returns-2
     returns-3)

@@ -1,7 +1,7 @@
 -- `match_newline` is the definition's `match-newline`: an equation for each outcome.
 use mathlib.Core.Path.{sym, _∙_}
 use borrow.Author.Tests.{not-true, not-false}
-use Rattle.utf8.proofs.Character.{char-read, char-within}
+use Rattle.utf8.proofs.Character.{decoded-within}
 use Rattle.match_lit.proofs.ByteLaws.{has-inside}
 use Rattle.matchers.proofs.NameLaws.{newline-other, newline-no, newline-one, newline-two, newline-return}
 use borrow.Author.Needs.{needs}
@@ -9,30 +9,18 @@ use native.Mathlib.Omega.{arith}
 use Rattle.matchers.proofs.match_newline.Statement.{statement}
 use Rattle.matchers.proofs.match_newline.Tie as tie
 
-sequence-at-requires : tie.Need-sequence-at-requires
-sequence-at-requires c κs = search needs
-
-enum-known-c : tie.Need-enum-known-c
-enum-known-c c = search needs
-
 returns : tie.Need-returns
 returns c = sym (newline-other _ _ (c .before .sequence-at .ensures) (c .match .keys2))
-
-is-newline-char-requires : tie.Need-is-newline-char-requires
-is-newline-char-requires c κs = search needs
 
 returns-2 : tie.Need-returns-2
 returns-2 c =
     let d = c .before .before .before in
     sym (newline-no _ _ (sym (d .before .before .sequence-at .ensures) ∙ d .c .given .1) (sym (c .before .is-newline-char .ensures) ∙ not-true _ (c .if1 .taken)))
 
-cast-if2 : tie.Need-cast-if2
-cast-if2 c = search needs
-
 add-t9 : tie.Need-add-t9
 add-t9 c =
     let d = c .before .before .before .before in
-    omega (arith, char-within (char-read (sym (d .before .before .sequence-at .ensures) ∙ d .c .given .1)))
+    omega (arith, decoded-within _ _ (d .before .before .sequence-at .ensures) (d .c .given .1))
 
 returns-3 : tie.Need-returns-3
 returns-3 c =
@@ -43,10 +31,7 @@ returns-3 c =
 add-byte-is : tie.Need-add-byte-is
 add-byte-is c =
     let d = c .before .before .before .before in
-    omega (arith, char-within (char-read (sym (d .before .before .sequence-at .ensures) ∙ d .c .given .1)))
-
-byte-is-requires : tie.Need-byte-is-requires
-byte-is-requires c κs = search needs
+    omega (arith, decoded-within _ _ (d .before .before .sequence-at .ensures) (d .c .given .1))
 
 add-t12 : tie.Need-add-t12
 add-t12 c = omega (arith, has-inside _ _ _ (sym (c .before .byte-is .ensures) ∙ c .if3 .taken))
@@ -60,7 +45,7 @@ returns-4 c =
 add-t11 : tie.Need-add-t11
 add-t11 c =
     let d = c .before .before .before .before .before .before in
-    omega (arith, char-within (char-read (sym (d .before .before .sequence-at .ensures) ∙ d .c .given .1)))
+    omega (arith, decoded-within _ _ (d .before .before .sequence-at .ensures) (d .c .given .1))
 
 returns-5 : tie.Need-returns-5
 returns-5 c =
@@ -72,17 +57,5 @@ pub match-newline-spec : {M : Type 1} → statement M
 match-newline-spec =
     tie.close
     (tie.spec
-    sequence-at-requires
-    enum-known-c
-    returns
-    is-newline-char-requires
-    returns-2
-    cast-if2
-    add-t9
-    returns-3
-    add-byte-is
-    byte-is-requires
-    add-t12
-    returns-4
-    add-t11
-    returns-5)
+    (λ c κs. search needs) (λ c. search needs) returns (λ c κs. search needs) returns-2 (λ c. search needs) add-t9 returns-3
+    add-byte-is (λ c κs. search needs) add-t12 returns-4 add-t11 returns-5)

@@ -9,26 +9,11 @@ use Rattle.number_value.proofs.above_255.Tie as tie
 returns : tie.Need-returns
 returns c = sym (ap (ltb 255) (int-empty _ (c .if1 .taken)))
 
-shared-slice-read-if2 : tie.Need-shared-slice-read-if2
-shared-slice-read-if2 c = search needs
-
-digits-above-255-requires : tie.Need-digits-above-255-requires
-digits-above-255-requires c κs = search needs
-
 returns-2 : tie.Need-returns-2
 returns-2 c = c .digits-above-255 .ensures ∙ sym (ap (ltb 255) (int-plain _ (c .before .before .before .if1 .left) (c .before .if2 .taken)))
 
 returns-3 : tie.Need-returns-3
 returns-3 c = sym (ap (ltb 255) (int-zero _ (c .if3 .taken) (c .before .if2 .left)))
-
-shared-slice-read-base-of : tie.Need-shared-slice-read-base-of
-shared-slice-read-base-of c = search needs
-
-base-of-requires : tie.Need-base-of-requires
-base-of-requires c κs = search needs
-
-digits-above-255-requires-2 : tie.Need-digits-above-255-requires-2
-digits-above-255-requires-2 c κs = search needs
 
 returns-4 : tie.Need-returns-4
 returns-4 c =
@@ -51,14 +36,5 @@ pub above-255-spec : {M : Type 1} → statement M
 above-255-spec =
     tie.close
     (tie.spec
-    returns
-    shared-slice-read-if2
-    digits-above-255-requires
-    returns-2
-    returns-3
-    shared-slice-read-base-of
-    base-of-requires
-    digits-above-255-requires-2
-    returns-4
-    digits-above-255-requires-3
-    returns-5)
+    returns (λ c. search needs) (λ c κs. search needs) returns-2 returns-3 (λ c. search needs) (λ c κs. search needs)
+    (λ c κs. search needs) returns-4 digits-above-255-requires-3 returns-5)

@@ -19,12 +19,6 @@ loop-holds c = reading-starts _ _ _
 mul-n : tie.Need-mul-n Inv-loop μ-loop
 mul-n c = omega (arith, product-small _ _ (c .before .loop .inv .small) (c .before .before .before .pre))
 
-shared-slice-read-digit-value : tie.Need-shared-slice-read-digit-value Inv-loop μ-loop
-shared-slice-read-digit-value c = search needs
-
-digit-value-requires : tie.Need-digit-value-requires Inv-loop μ-loop
-digit-value-requires c κs = search needs
-
 add-n : tie.Need-add-n Inv-loop μ-loop
 add-n c =
     let l = c .before .before .before in
@@ -34,12 +28,6 @@ returns : tie.Need-returns Inv-loop μ-loop
 returns c =
     let l = c .before .before .before .before in
     reading-stops (l .loop .inv) (l .before .before .pre) (c .before .before .before .loop-test .taken) (rw (c .before .digit-value .ensures) at (c .if1 .taken))
-
-add-i : tie.Need-add-i Inv-loop μ-loop
-add-i c = omega arith
-
-loop-less : tie.Need-loop-less Inv-loop μ-loop
-loop-less c = omega arith
 
 loop-again : tie.Need-loop-again Inv-loop μ-loop
 loop-again c =
@@ -54,15 +42,5 @@ pub digits-above-255-spec : {M : Type 1} → statement M
 digits-above-255-spec =
     tie.close
     (tie.spec
-    Inv-loop
-    μ-loop
-    loop-holds
-    mul-n
-    shared-slice-read-digit-value
-    digit-value-requires
-    add-n
-    returns
-    add-i
-    loop-less
-    loop-again
-    returns-2)
+    Inv-loop μ-loop loop-holds mul-n (λ c. search needs) (λ c κs. search needs) add-n returns (λ c. omega arith)
+    (λ c. omega arith) loop-again returns-2)

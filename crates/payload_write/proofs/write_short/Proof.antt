@@ -7,26 +7,14 @@ use Rattle.payload_write.proofs.write_short.Tie as tie
 returns : tie.Need-returns
 returns c name f = nothing-short name f _ _ (c .if1 .taken) (c .before .before .before .pre)
 
-enum-known-payload : tie.Need-enum-known-payload
-enum-known-payload c = search needs
-
 copy-part-requires : tie.Need-copy-part-requires
 copy-part-requires c κs = part-fits (rw (c .before .before .payload .given .1) at (c .before .before .before .before .before .before .before .pre))
-
-enum-known-payload-2 : tie.Need-enum-known-payload-2
-enum-known-payload-2 c = search needs
 
 text-into-requires : tie.Need-text-into-requires
 text-into-requires c κs = text-fits (rw (c .before .before .payload2 .given .1) at (c .before .before .before .before .before .before .before .pre))
 
-same-length : tie.Need-same-length
-same-length c = search needs
-
 returns-2 : tie.Need-returns-2
 returns-2 c name f = rw (c .before .before .before .before .before .payload .given .1) (c .before .before .copy-part .ensures .bytes)
-
-same-length-2 : tie.Need-same-length-2
-same-length-2 c = search needs
 
 returns-3 : tie.Need-returns-3
 returns-3 c name f = rw (c .before .before .before .before .before .payload2 .given .1) (c .before .before .text-into .ensures)
@@ -38,13 +26,5 @@ pub write-short-spec : {M : Type 1} → statement M
 write-short-spec =
     tie.close
     (tie.spec
-    returns
-    enum-known-payload
-    copy-part-requires
-    enum-known-payload-2
-    text-into-requires
-    same-length
-    returns-2
-    same-length-2
-    returns-3
-    returns-4)
+    returns (λ c. search needs) copy-part-requires (λ c. search needs) text-into-requires (λ c. search needs) returns-2
+    (λ c. search needs) returns-3 returns-4)

@@ -6,12 +6,6 @@ use Rattle.position.proofs.Counting.{from-known, from-start, count-fits
 use Rattle.position.proofs.column_from.Statement.{statement}
 use Rattle.position.proofs.column_from.Tie as tie
 
-cast-from : tie.Need-cast-from
-cast-from c = search needs
-
-count-chars-requires : tie.Need-count-chars-requires
-count-chars-requires c κs = search needs
-
 cast-t11 : tie.Need-cast-t11
 cast-t11 c = omega (arith, count-fits _ _ _ _ (omega arith) (c .count-chars .ensures))
 
@@ -22,12 +16,6 @@ returns c =
 
 add-t12 : tie.Need-add-t12
 add-t12 c = omega (arith, column-fits _ (c .before .before .before .before .before .before .pre) (returns c))
-
-cast-from-2 : tie.Need-cast-from-2
-cast-from-2 c = search needs
-
-count-chars-requires-2 : tie.Need-count-chars-requires-2
-count-chars-requires-2 c κs = search needs
 
 cast-t13 : tie.Need-cast-t13
 cast-t13 c = omega (arith, count-fits _ _ _ _ (omega arith) (c .count-chars2 .ensures))
@@ -42,13 +30,5 @@ pub column-from-spec : {M : Type 1} → statement M
 column-from-spec =
     tie.close
     (tie.spec
-    cast-from
-    count-chars-requires
-    cast-t11
-    add-t12
-    returns
-    cast-from-2
-    count-chars-requires-2
-    cast-t13
-    add-t14
-    returns-2)
+    (λ c. search needs) (λ c κs. search needs) cast-t11 add-t12 returns (λ c. search needs) (λ c κs. search needs) cast-t13
+    add-t14 returns-2)

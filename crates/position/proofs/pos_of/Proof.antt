@@ -5,11 +5,8 @@ use Rattle.position.specs.declared.Cache.{Cache}
 use Rattle.position.proofs.pos_of.Statement.{statement}
 use Rattle.position.proofs.pos_of.Tie as tie
 
-known-after-requires : tie.Need-known-after-requires
-known-after-requires c κs = search needs
-
 returns : tie.Need-returns
 returns c = ap (λ (x : Cache). record { pos = record { line = c .before .before .args .st .line; col = x .col }; known = x }) (c .known-after .ensures)
 
 pub pos-of-spec : {M : Type 1} → statement M
-pos-of-spec = tie.close (tie.spec known-after-requires returns)
+pos-of-spec = tie.close (tie.spec (λ c κs. search needs) returns)

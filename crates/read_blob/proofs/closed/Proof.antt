@@ -20,31 +20,10 @@ pos-of-requires-2 c κs =
     let p = c .before .before .before .before .pre in
     asks (stays _ (p .0 .standing) (c .pos-of .ensures)) _ (p .1 .sound .order) (stands-within (p .1))
 
-cast-i : tie.Need-cast-i
-cast-i c = search needs
-
-span-requires : tie.Need-span-requires
-span-requires c κs = search needs
-
-cast-advance : tie.Need-cast-advance
-cast-advance c = search needs
-
-kind-of-requires : tie.Need-kind-of-requires
-kind-of-requires c κs = search needs
-
-span-requires-2 : tie.Need-span-requires-2
-span-requires-2 c κs = search needs
-
-cast-t22 : tie.Need-cast-t22
-cast-t22 c = search needs
-
 cast-advance-2 : tie.Need-cast-advance-2
 cast-advance-2 c =
     let n = c .before .before .before .before .before .before .before .before .before .before .before .before .before .before .pre .1 in
     omega (arith, stands-within n, n .short)
-
-advance-requires : tie.Need-advance-requires
-advance-requires c κs = search needs
 
 returns : tie.Need-returns
 returns c =
@@ -57,15 +36,5 @@ pub closed-spec : {M : Type 1} → statement M
 closed-spec =
     tie.close
     (tie.spec
-    pos-of-requires
-    cast-pos-of
-    pos-of-requires-2
-    cast-i
-    span-requires
-    cast-advance
-    kind-of-requires
-    span-requires-2
-    cast-t22
-    cast-advance-2
-    advance-requires
-    returns)
+    pos-of-requires cast-pos-of pos-of-requires-2 (λ c. search needs) (λ c κs. search needs) (λ c. search needs)
+    (λ c κs. search needs) (λ c κs. search needs) (λ c. search needs) cast-advance-2 (λ c κs. search needs) returns)

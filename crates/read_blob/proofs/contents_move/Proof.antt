@@ -4,17 +4,11 @@ use borrow.Author.Needs.{needs}
 use Rattle.read_blob.proofs.contents_move.Statement.{statement}
 use Rattle.read_blob.proofs.contents_move.Tie as tie
 
-run-end-requires : tie.Need-run-end-requires
-run-end-requires c κs = search needs
-
 returns : tie.Need-returns
 returns c = move-run _ _ (c .before .run-end .ensures) (c .if1 .taken)
-
-after-requires : tie.Need-after-requires
-after-requires c κs = search needs
 
 returns-2 : tie.Need-returns-2
 returns-2 c = move-after _ _ (c .before .before .run-end .ensures) (c .before .if1 .left) (c .after .ensures)
 
 pub contents-move-spec : {M : Type 1} → statement M
-contents-move-spec = tie.close (tie.spec run-end-requires returns after-requires returns-2)
+contents-move-spec = tie.close (tie.spec (λ c κs. search needs) returns (λ c κs. search needs) returns-2)

@@ -8,18 +8,6 @@ use Rattle.read_blob.proofs.inside_move.Tie as tie
 returns : tie.Need-returns
 returns c = move-open _ _ (c .if1 .taken)
 
-match-newline-requires : tie.Need-match-newline-requires
-match-newline-requires c κs = search needs
-
-enum-known-nl : tie.Need-enum-known-nl
-enum-known-nl c = search needs
-
-enum-told : tie.Need-enum-told
-enum-told c = search needs
-
-contents-move-requires : tie.Need-contents-move-requires
-contents-move-requires c κs = search needs
-
 returns-2 : tie.Need-returns-2
 returns-2 c =
     let d = c .before .before .before in
@@ -34,10 +22,4 @@ pub inside-move-spec : {M : Type 1} → statement M
 inside-move-spec =
     tie.close
     (tie.spec
-    returns
-    match-newline-requires
-    enum-known-nl
-    enum-told
-    contents-move-requires
-    returns-2
-    returns-3)
+    returns (λ c κs. search needs) (λ c. search needs) (λ c. search needs) (λ c κs. search needs) returns-2 returns-3)

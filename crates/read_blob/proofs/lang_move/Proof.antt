@@ -8,20 +8,8 @@ use Rattle.read_blob.proofs.lang_move.Tie as tie
 returns : tie.Need-returns
 returns c = lang-end _ _ (c .if1 .taken)
 
-run-end-requires : tie.Need-run-end-requires
-run-end-requires c κs = search needs
-
 returns-2 : tie.Need-returns-2
 returns-2 c = lang-run _ _ (c .before .before .if1 .left) (c .before .run-end .ensures) (c .if2 .taken)
-
-match-newline-requires : tie.Need-match-newline-requires
-match-newline-requires c κs = search needs
-
-enum-known-nl : tie.Need-enum-known-nl
-enum-known-nl c = search needs
-
-enum-told : tie.Need-enum-told
-enum-told c = search needs
 
 returns-3 : tie.Need-returns-3
 returns-3 c =
@@ -39,11 +27,4 @@ pub lang-move-spec : {M : Type 1} → statement M
 lang-move-spec =
     tie.close
     (tie.spec
-    returns
-    run-end-requires
-    returns-2
-    match-newline-requires
-    enum-known-nl
-    enum-told
-    returns-3
-    returns-4)
+    returns (λ c κs. search needs) returns-2 (λ c κs. search needs) (λ c. search needs) (λ c. search needs) returns-3 returns-4)

@@ -13,25 +13,16 @@ Inv-loop text name header lang from here₀ here = Reading text header lang from
 abbrev μ-loop : tie.MeasureT-loop
 μ-loop text name header lang from here₀ here = length text - here .st .offset
 
-cast-from : tie.Need-cast-from Inv-loop μ-loop
-cast-from c = search needs
-
 loop-holds : tie.Need-loop-holds Inv-loop μ-loop
 loop-holds c = reading-starts (c .before .before .before .before .pre)
 
 turn-requires : tie.Need-turn-requires Inv-loop μ-loop
 turn-requires c κs = c .loop .inv .inside
 
-enum-known-r : tie.Need-enum-known-r Inv-loop μ-loop
-enum-known-r c = search needs
-
 returns : tie.Need-returns Inv-loop μ-loop
 returns c =
     let d = c .before .before .before in
     λ f. reading-ends (d .before .loop .inv) _ f _ (rw (c .before .r .given .1) at (d .turn .ensures f))
-
-enum-known-next : tie.Need-enum-known-next Inv-loop μ-loop
-enum-known-next c = search needs
 
 loop-less : tie.Need-loop-less Inv-loop μ-loop
 loop-less c =
@@ -47,13 +38,5 @@ pub read-contents-spec : {M : Type 1} → statement M
 read-contents-spec =
     tie.close
     (tie.spec
-    Inv-loop
-    μ-loop
-    cast-from
-    loop-holds
-    turn-requires
-    enum-known-r
-    returns
-    enum-known-next
-    loop-less
+    Inv-loop μ-loop (λ c. search needs) loop-holds turn-requires (λ c. search needs) returns (λ c. search needs) loop-less
     loop-again)

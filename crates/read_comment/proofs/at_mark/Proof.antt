@@ -7,15 +7,6 @@ use Rattle.read_comment.proofs.TurnLaws.{closed-ending, over-ending, tu
 use Rattle.read_comment.proofs.at_mark.Statement.{statement}
 use Rattle.read_comment.proofs.at_mark.Tie as tie
 
-cast-i : tie.Need-cast-i
-cast-i c = search needs
-
-byte-pair-requires : tie.Need-byte-pair-requires
-byte-pair-requires c κs = search needs
-
-add-moved : tie.Need-add-moved
-add-moved c = search needs
-
 moved-requires : tie.Need-moved-requires
 moved-requires c κs =
     let h = small (c .before .before .before .before .before .pre .stopped .inside .standing .stands) in
@@ -41,9 +32,6 @@ returns-2 c =
     let a = d .before .before .before .before .before in
     turns-over (a .pre) (a .args .from) (sym (d .before .byte-pair .ensures) ∙ d .if1 .left) (c .before .if2 .taken) (c .terminate2 .ensures)
 
-after-requires : tie.Need-after-requires
-after-requires c κs = search needs
-
 moved-requires-2 : tie.Need-moved-requires-2
 moved-requires-2 c κs =
     let d = c .before .before .before .before .before .before .before in
@@ -60,14 +48,5 @@ pub at-mark-spec : {M : Type 1} → statement M
 at-mark-spec =
     tie.close
     (tie.spec
-    cast-i
-    byte-pair-requires
-    add-moved
-    moved-requires
-    terminate-requires
-    returns
-    terminate-requires-2
-    returns-2
-    after-requires
-    moved-requires-2
-    returns-3)
+    (λ c. search needs) (λ c κs. search needs) (λ c. search needs) moved-requires terminate-requires returns terminate-requires-2
+    returns-2 (λ c κs. search needs) moved-requires-2 returns-3)

@@ -10,15 +10,6 @@ use Rattle.read_comment.proofs.TurnLaws.{turns-open, turns-line}
 use Rattle.read_comment.proofs.at_stop.Statement.{statement}
 use Rattle.read_comment.proofs.at_stop.Tie as tie
 
-cast-i : tie.Need-cast-i
-cast-i c = search needs
-
-byte-pair-requires : tie.Need-byte-pair-requires
-byte-pair-requires c κs = search needs
-
-add-moved : tie.Need-add-moved
-add-moved c = search needs
-
 moved-requires : tie.Need-moved-requires
 moved-requires c κs =
     let h = small (c .before .before .before .before .before .pre .inside .standing .stands) in
@@ -36,15 +27,6 @@ returns c =
     let a = e .before .before .before .before .before in
     turns-open (a .pre) (a .args .from) (sym (e .before .byte-pair .ensures) ∙ e .if1 .taken) (d .moved .ensures) (c .deeper .ensures)
 
-match-newline-requires : tie.Need-match-newline-requires
-match-newline-requires c κs = search needs
-
-enum-known-nl : tie.Need-enum-known-nl
-enum-known-nl c = search needs
-
-enum-told : tie.Need-enum-told
-enum-told c = search needs
-
 at-mark-requires : tie.Need-at-mark-requires
 at-mark-requires c κs =
     let d = c .before .before in
@@ -54,9 +36,6 @@ at-mark-requires c κs =
       shut = sym (e .before .byte-pair .ensures) ∙ e .if1 .left;
       line = sym (d .match-newline .ensures) ∙ c .enum-told .given .1;
     }
-
-returns-2 : tie.Need-returns-2
-returns-2 c = search needs
 
 next-line-requires : tie.Need-next-line-requires
 next-line-requires c κs =
@@ -78,16 +57,5 @@ pub at-stop-spec : {M : Type 1} → statement M
 at-stop-spec =
     tie.close
     (tie.spec
-    cast-i
-    byte-pair-requires
-    add-moved
-    moved-requires
-    deeper-requires
-    returns
-    match-newline-requires
-    enum-known-nl
-    enum-told
-    at-mark-requires
-    returns-2
-    next-line-requires
-    returns-3)
+    (λ c. search needs) (λ c κs. search needs) (λ c. search needs) moved-requires deeper-requires returns (λ c κs. search needs)
+    (λ c. search needs) (λ c. search needs) at-mark-requires (λ c. search needs) next-line-requires returns-3)

@@ -18,16 +18,10 @@ loop-holds c = going-starts _ (c .before .pre)
 comment-turn-requires : tie.Need-comment-turn-requires Inv-loop μ-loop
 comment-turn-requires c κs = c .loop .inv .inside
 
-enum-known-r : tie.Need-enum-known-r Inv-loop μ-loop
-enum-known-r c = search needs
-
 returns : tie.Need-returns Inv-loop μ-loop
 returns c =
     let d = c .before .before .before in
     going-ends (d .before .loop .inv) (c .before .r .given .1) (d .comment-turn .ensures)
-
-enum-known-next : tie.Need-enum-known-next Inv-loop μ-loop
-enum-known-next c = search needs
 
 loop-less : tie.Need-loop-less Inv-loop μ-loop
 loop-less c =
@@ -43,12 +37,4 @@ pub comment-spec : {M : Type 1} → statement M
 comment-spec =
     tie.close
     (tie.spec
-    Inv-loop
-    μ-loop
-    loop-holds
-    comment-turn-requires
-    enum-known-r
-    returns
-    enum-known-next
-    loop-less
-    loop-again)
+    Inv-loop μ-loop loop-holds comment-turn-requires (λ c. search needs) returns (λ c. search needs) loop-less loop-again)

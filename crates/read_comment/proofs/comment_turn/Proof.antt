@@ -5,12 +5,6 @@ use Rattle.read_comment.proofs.TurnLaws.{run-within, turns-run, stops}
 use Rattle.read_comment.proofs.comment_turn.Statement.{statement}
 use Rattle.read_comment.proofs.comment_turn.Tie as tie
 
-cast-i : tie.Need-cast-i
-cast-i c = search needs
-
-run-end-requires : tie.Need-run-end-requires
-run-end-requires c κs = search needs
-
 moved-requires : tie.Need-moved-requires
 moved-requires c κs =
     let d = c .before .before .before .before .before in
@@ -27,9 +21,8 @@ at-stop-requires c κs =
     let d = c .before in
     stops (d .before .before .before .before .pre) (d .run-end .ensures) (c .if1 .left)
 
-returns-2 : tie.Need-returns-2
-returns-2 c = search needs
-
 pub comment-turn-spec : {M : Type 1} → statement M
 comment-turn-spec =
-    tie.close (tie.spec cast-i run-end-requires moved-requires returns at-stop-requires returns-2)
+    tie.close
+    (tie.spec
+    (λ c. search needs) (λ c κs. search needs) moved-requires returns at-stop-requires (λ c. search needs))

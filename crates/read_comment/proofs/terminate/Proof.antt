@@ -7,15 +7,6 @@ use Rattle.read_comment.proofs.PieceLaws.{piece-short, piece-reads}
 use Rattle.read_comment.proofs.terminate.Statement.{statement}
 use Rattle.read_comment.proofs.terminate.Tie as tie
 
-cast-trim-width : tie.Need-cast-trim-width
-cast-trim-width c = search needs
-
-trim-width-requires : tie.Need-trim-width-requires
-trim-width-requires c κs = search needs
-
-trimmed-length-requires : tie.Need-trimmed-length-requires
-trimmed-length-requires c κs = search needs
-
 pos-of-requires : tie.Need-pos-of-requires
 pos-of-requires c κs = asks-here (c .before .before .before .before .before .before .pre .standing)
 
@@ -41,10 +32,4 @@ pub terminate-spec : {M : Type 1} → statement M
 terminate-spec =
     tie.close
     (tie.spec
-    cast-trim-width
-    trim-width-requires
-    trimmed-length-requires
-    pos-of-requires
-    close-comment-requires
-    cast-t18
-    returns)
+    (λ c. search needs) (λ c κs. search needs) (λ c κs. search needs) pos-of-requires close-comment-requires cast-t18 returns)

@@ -18,19 +18,10 @@ pos-of-requires c κs =
     let p = c .before .before .before .before .pre in
     asks (p .standing) _ (p .next .sound .order) (stands-within (p .next))
 
-cast-contents : tie.Need-cast-contents
-cast-contents c = search needs
-
-contents-requires : tie.Need-contents-requires
-contents-requires c κs = search needs
-
 cast-advance : tie.Need-cast-advance
 cast-advance c =
     let h = c .before .before .before .before .before .before .before .before .before .pre .next in
     omega (arith, stands-within h, h .short)
-
-advance-requires : tie.Need-advance-requires
-advance-requires c κs = search needs
 
 token-requires : tie.Need-token-requires
 token-requires c κs = c .before .contents .ensures .0 _
@@ -46,11 +37,5 @@ pub close-spec : {M : Type 1} → statement M
 close-spec =
     tie.close
     (tie.spec
-    cast-pos-of
-    pos-of-requires
-    cast-contents
-    contents-requires
-    cast-advance
-    advance-requires
-    token-requires
+    cast-pos-of pos-of-requires (λ c. search needs) (λ c κs. search needs) cast-advance (λ c κs. search needs) token-requires
     returns)

@@ -14,14 +14,8 @@ Inv-loop text name classes sp from here₀ count₀ here count = Reading text cl
 abbrev μ-loop : tie.MeasureT-loop
 μ-loop text name classes sp from here₀ count₀ here count = length text - here .st .offset
 
-cast-from : tie.Need-cast-from Inv-loop μ-loop
-cast-from c = search needs
-
 loop-holds : tie.Need-loop-holds Inv-loop μ-loop
 loop-holds c = reading-starts (c .before .before .before .before .before .pre)
-
-cast-i : tie.Need-cast-i Inv-loop μ-loop
-cast-i c = search needs
 
 string-move-requires : tie.Need-string-move-requires Inv-loop μ-loop
 string-move-requires c κs = c .before .before .before .before .before .before .before .before .pre .accepted
@@ -29,21 +23,12 @@ string-move-requires c κs = c .before .before .before .before .before .before .
 turn-requires : tie.Need-turn-requires Inv-loop μ-loop
 turn-requires c κs = reading-turns (c .before .before .before .loop .inv) (c .string-move .ensures)
 
-enum-known-r : tie.Need-enum-known-r Inv-loop μ-loop
-enum-known-r c = search needs
-
 returns : tie.Need-returns Inv-loop μ-loop
 returns c =
     let d = c .before .before .before in
     let inv = d .before .before .before .before .loop .inv in
     let e = d .before .string-move .ensures in
     reading-ends inv e _ _ (rw (c .before .r .given .1) at (d .turn .ensures _ _ (sym e) (inv .held)))
-
-enum-known-next : tie.Need-enum-known-next Inv-loop μ-loop
-enum-known-next c = search needs
-
-added-requires : tie.Need-added-requires Inv-loop μ-loop
-added-requires c κs = search needs
 
 loop-again : tie.Need-loop-again Inv-loop μ-loop
 loop-again c =
@@ -66,17 +51,5 @@ pub string-lit-spec : {M : Type 1} → statement M
 string-lit-spec =
     tie.close
     (tie.spec
-    Inv-loop
-    μ-loop
-    cast-from
-    loop-holds
-    cast-i
-    string-move-requires
-    turn-requires
-    enum-known-r
-    returns
-    enum-known-next
-    added-requires
-    add-count
-    loop-less
-    loop-again)
+    Inv-loop μ-loop (λ c. search needs) loop-holds (λ c. search needs) string-move-requires turn-requires (λ c. search needs)
+    returns (λ c. search needs) (λ c κs. search needs) add-count loop-less loop-again)

@@ -6,57 +6,30 @@ use borrow.Author.Needs.{needs}
 use Rattle.read_string.proofs.turn.Statement.{statement}
 use Rattle.read_string.proofs.turn.Tie as tie
 
-enum-known-m : tie.Need-enum-known-m
-enum-known-m c = search needs
-
 moved-requires : tie.Need-moved-requires
 moved-requires c κs =
     let g = c .before .before .before .before .before .before .before in
     on-fits (g .args .at .st) (rw (c .before .m .given .1) at (g .pre .safe) .0)
-
-enum-known-m-2 : tie.Need-enum-known-m-2
-enum-known-m-2 c = search needs
 
 next-line-requires : tie.Need-next-line-requires
 next-line-requires c κs =
     let g = c .before .before .before .before .before .before .before in
     line-fits (g .args .at .st) (rw (c .before .m2 .given .1) at (g .pre .safe) .0)
 
-enum-known-m-3 : tie.Need-enum-known-m-3
-enum-known-m-3 c = search needs
-
 next-line-requires-2 : tie.Need-next-line-requires-2
 next-line-requires-2 c κs =
     let g = c .before .before .before .before .before .before .before in
     line-fits (g .args .at .st) (rw (c .before .m3 .given .1) at (g .pre .safe) .0)
-
-enum-known-m-4 : tie.Need-enum-known-m-4
-enum-known-m-4 c = search needs
 
 moved-requires-2 : tie.Need-moved-requires-2
 moved-requires-2 c κs =
     let g = c .before .before .before .before .before .before .before in
     on-fits (g .args .at .st) (rw (c .before .m4 .given .1) at (g .pre .safe) .0)
 
-enum-told : tie.Need-enum-told
-enum-told c = search needs
-
-error-here-requires : tie.Need-error-here-requires
-error-here-requires c κs = search needs
-
-enum-known-m-5 : tie.Need-enum-known-m-5
-enum-known-m-5 c = search needs
-
 close-requires : tie.Need-close-requires
 close-requires c κs =
     let g = c .before .before .before .before .before .before .before in
     record { standing = g .pre .standing; next = rw (c .before .m5 .given .1) at (g .pre .safe); small = g .pre .small }
-
-enum-told-2 : tie.Need-enum-told-2
-enum-told-2 c = search needs
-
-error-here-requires-2 : tie.Need-error-here-requires-2
-error-here-requires-2 c κs = search needs
 
 returns : tie.Need-returns
 returns c =
@@ -93,24 +66,6 @@ pub turn-spec : {M : Type 1} → statement M
 turn-spec =
     tie.close
     (tie.spec
-    enum-known-m
-    moved-requires
-    enum-known-m-2
-    next-line-requires
-    enum-known-m-3
-    next-line-requires-2
-    enum-known-m-4
-    moved-requires-2
-    enum-told
-    error-here-requires
-    enum-known-m-5
-    close-requires
-    enum-told-2
-    error-here-requires-2
-    returns
-    returns-2
-    returns-3
-    returns-4
-    returns-5
-    returns-6
-    returns-7)
+    (λ c. search needs) moved-requires (λ c. search needs) next-line-requires (λ c. search needs) next-line-requires-2
+    (λ c. search needs) moved-requires-2 (λ c. search needs) (λ c κs. search needs) (λ c. search needs) close-requires
+    (λ c. search needs) (λ c κs. search needs) returns returns-2 returns-3 returns-4 returns-5 returns-6 returns-7)

@@ -5,15 +5,6 @@ use borrow.Author.Needs.{needs}
 use Rattle.reader.proofs.short_length.Statement.{statement}
 use Rattle.reader.proofs.short_length.Tie as tie
 
-enum-known-payload : tie.Need-enum-known-payload
-enum-known-payload c = search needs
-
-span-requires : tie.Need-span-requires
-span-requires c κs = search needs
-
-enum-known-payload-2 : tie.Need-enum-known-payload-2
-enum-known-payload-2 c = search needs
-
 text-length-requires : tie.Need-text-length-requires
 text-length-requires c κs = rw (c .before .payload2 .given .1) at (c .before .before .before .pre)
 
@@ -30,10 +21,4 @@ pub short-length-spec : {M : Type 1} → statement M
 short-length-spec =
     tie.close
     (tie.spec
-    enum-known-payload
-    span-requires
-    enum-known-payload-2
-    text-length-requires
-    returns
-    returns-2
-    returns-3)
+    (λ c. search needs) (λ c κs. search needs) (λ c. search needs) text-length-requires returns returns-2 returns-3)

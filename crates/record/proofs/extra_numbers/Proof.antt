@@ -3,24 +3,6 @@ use borrow.Author.Needs.{needs}
 use Rattle.record.proofs.extra_numbers.Statement.{statement}
 use Rattle.record.proofs.extra_numbers.Tie as tie
 
-enum-told : tie.Need-enum-told
-enum-told c = search needs
-
-enum-known-extra : tie.Need-enum-known-extra
-enum-known-extra c = search needs
-
-enum-known-extra-2 : tie.Need-enum-known-extra-2
-enum-known-extra-2 c = search needs
-
-enum-known-extra-3 : tie.Need-enum-known-extra-3
-enum-known-extra-3 c = search needs
-
-enum-known-extra-4 : tie.Need-enum-known-extra-4
-enum-known-extra-4 c = search needs
-
-mark-requires : tie.Need-mark-requires
-mark-requires c κs = search needs
-
 returns : tie.Need-returns
 returns c = rw (c .enum-told .given .1)
 
@@ -40,14 +22,5 @@ pub extra-numbers-spec : {M : Type 1} → statement M
 extra-numbers-spec =
     tie.close
     (tie.spec
-    enum-told
-    enum-known-extra
-    enum-known-extra-2
-    enum-known-extra-3
-    enum-known-extra-4
-    mark-requires
-    returns
-    returns-2
-    returns-3
-    returns-4
-    returns-5)
+    (λ c. search needs) (λ c. search needs) (λ c. search needs) (λ c. search needs) (λ c. search needs) (λ c κs. search needs)
+    returns returns-2 returns-3 returns-4 returns-5)

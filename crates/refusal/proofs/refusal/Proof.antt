@@ -5,31 +5,16 @@ use borrow.Author.Needs.{needs}
 use Rattle.refusal.proofs.refusal.Statement.{statement}
 use Rattle.refusal.proofs.refusal.Tie as tie
 
-refuse-requires : tie.Need-refuse-requires
-refuse-requires c κs = search needs
-
 returns : tie.Need-returns
 returns c = pair _ (c .refuse .ensures) ∙ long-text _ _ _ _ (c .before .if1 .taken)
 
-refuse-requires-2 : tie.Need-refuse-requires-2
-refuse-requires-2 c κs = search needs
-
 returns-2 : tie.Need-returns-2
 returns-2 c = pair _ (c .refuse2 .ensures) ∙ long-name _ _ _ _ (c .before .before .if1 .left) (c .before .if2 .taken)
-
-class-check-requires : tie.Need-class-check-requires
-class-check-requires c κs = search needs
-
-refuse-requires-3 : tie.Need-refuse-requires-3
-refuse-requires-3 c κs = search needs
 
 returns-3 : tie.Need-returns-3
 returns-3 c =
     let d = c .before .before .before in
     pair _ (c .refuse3 .ensures) ∙ bad-classes _ _ _ _ (d .before .if1 .left) (d .if2 .left) (c .before .before .class-check .ensures) (c .before .if3 .taken)
-
-text-refusal-requires : tie.Need-text-refusal-requires
-text-refusal-requires c κs = search needs
 
 returns-4 : tie.Need-returns-4
 returns-4 c =
@@ -40,12 +25,5 @@ pub refusal-spec : {M : Type 1} → statement M
 refusal-spec =
     tie.close
     (tie.spec
-    refuse-requires
-    returns
-    refuse-requires-2
-    returns-2
-    class-check-requires
-    refuse-requires-3
-    returns-3
-    text-refusal-requires
-    returns-4)
+    (λ c κs. search needs) returns (λ c κs. search needs) returns-2 (λ c κs. search needs) (λ c κs. search needs) returns-3
+    (λ c κs. search needs) returns-4)

@@ -4,11 +4,8 @@ use borrow.Author.Needs.{needs}
 use Rattle.rule_numbers.proofs.bad_number.Statement.{statement}
 use Rattle.rule_numbers.proofs.bad_number.Tie as tie
 
-cast-t5 : tie.Need-cast-t5
-cast-t5 c = search needs
-
 returns : tie.Need-returns
 returns c = λ s name h. bad-rules h name
 
 pub bad-number-spec : {M : Type 1} → statement M
-bad-number-spec = tie.close (tie.spec cast-t5 returns)
+bad-number-spec = tie.close (tie.spec (λ c. search needs) returns)

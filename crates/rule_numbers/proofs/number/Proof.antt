@@ -4,14 +4,8 @@ use borrow.Author.Needs.{needs}
 use Rattle.rule_numbers.proofs.number.Statement.{statement}
 use Rattle.rule_numbers.proofs.number.Tie as tie
 
-cast-i : tie.Need-cast-i
-cast-i c = search needs
-
-cleaned-requires : tie.Need-cleaned-requires
-cleaned-requires c κs = search needs
-
 returns : tie.Need-returns
 returns c = λ name x q. number-rules (c .before .before .before .before .pre) name _ (c .cleaned .ensures) _ x q
 
 pub number-spec : {M : Type 1} → statement M
-number-spec = tie.close (tie.spec cast-i cleaned-requires returns)
+number-spec = tie.close (tie.spec (λ c. search needs) (λ c κs. search needs) returns)

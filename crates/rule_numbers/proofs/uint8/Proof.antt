@@ -5,24 +5,6 @@ use borrow.Author.Needs.{needs}
 use Rattle.rule_numbers.proofs.uint8.Statement.{statement}
 use Rattle.rule_numbers.proofs.uint8.Tie as tie
 
-cast-i : tie.Need-cast-i
-cast-i c = search needs
-
-cleaned-requires : tie.Need-cleaned-requires
-cleaned-requires c κs = search needs
-
-sub-above-255 : tie.Need-sub-above-255
-sub-above-255 c = search needs
-
-part-above-255-start : tie.Need-part-above-255-start
-part-above-255-start c = search needs
-
-part-above-255-end : tie.Need-part-above-255-end
-part-above-255-end c = search needs
-
-above-255-requires : tie.Need-above-255-requires
-above-255-requires c κs = search needs
-
 returns : tie.Need-returns
 returns c = λ name. big-rules (c .before .before .before .before .before .before .before .pre) name _ (c .before .before .before .cleaned .ensures) _ (c .before .above-255 .ensures) (c .if1 .taken)
 
@@ -34,11 +16,5 @@ pub uint8-spec : {M : Type 1} → statement M
 uint8-spec =
     tie.close
     (tie.spec
-    cast-i
-    cleaned-requires
-    sub-above-255
-    part-above-255-start
-    part-above-255-end
-    above-255-requires
-    returns
-    returns-2)
+    (λ c. search needs) (λ c κs. search needs) (λ c. search needs) (λ c. search needs) (λ c. search needs) (λ c κs. search needs)
+    returns returns-2)

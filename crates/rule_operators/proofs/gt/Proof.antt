@@ -5,18 +5,9 @@ use borrow.Author.Needs.{needs}
 use Rattle.rule_operators.proofs.gt.Statement.{statement}
 use Rattle.rule_operators.proofs.gt.Tie as tie
 
-cast-j : tie.Need-cast-j
-cast-j c = search needs
-
-add-j : tie.Need-add-j
-add-j c = search needs
-
-no-comment-requires : tie.Need-no-comment-requires
-no-comment-requires c κs = search needs
-
 returns : tie.Need-returns
 unfolding kind kind-names number-from
 returns c = λ name. gt-rules (c .before .before .before .before .pre) name (c .no-comment .ensures)
 
 pub gt-spec : {M : Type 1} → statement M
-gt-spec = tie.close (tie.spec cast-j add-j no-comment-requires returns)
+gt-spec = tie.close (tie.spec (λ c. search needs) (λ c. search needs) (λ c κs. search needs) returns)

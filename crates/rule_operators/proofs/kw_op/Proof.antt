@@ -5,26 +5,11 @@ use borrow.Author.Needs.{needs}
 use Rattle.rule_operators.proofs.kw_op.Statement.{statement}
 use Rattle.rule_operators.proofs.kw_op.Tie as tie
 
-cast-i : tie.Need-cast-i
-cast-i c = search needs
-
-no-comment-requires : tie.Need-no-comment-requires
-no-comment-requires c κs = search needs
-
-kw-op-length-requires : tie.Need-kw-op-length-requires
-kw-op-length-requires c κs = search needs
-
 add-from : tie.Need-add-from
 add-from c = omega (arith, kw-op-short _ _ (c .kw-op-length .ensures))
 
-kw-op-kind-requires : tie.Need-kw-op-kind-requires
-kw-op-kind-requires c κs = search needs
-
 returns : tie.Need-returns
 returns c = λ name. kw-before-rules (c .before .before .before .before .before .before .before .pre .0) name _ (c .before .before .before .no-comment .ensures) (c .before .before .kw-op-length .ensures) (c .before .if1 .taken) (c .kw-op-kind .ensures)
-
-kw-op-plain-kind-requires : tie.Need-kw-op-plain-kind-requires
-kw-op-plain-kind-requires c κs = search needs
 
 returns-2 : tie.Need-returns-2
 returns-2 c = λ name. kw-plain-rules (c .before .before .before .before .before .before .before .pre .0) name _ (c .before .before .before .no-comment .ensures) (c .before .before .kw-op-length .ensures) (c .before .if1 .left) (c .kw-op-plain-kind .ensures)
@@ -33,11 +18,5 @@ pub kw-op-spec : {M : Type 1} → statement M
 kw-op-spec =
     tie.close
     (tie.spec
-    cast-i
-    no-comment-requires
-    kw-op-length-requires
-    add-from
-    kw-op-kind-requires
-    returns
-    kw-op-plain-kind-requires
-    returns-2)
+    (λ c. search needs) (λ c κs. search needs) (λ c κs. search needs) add-from (λ c κs. search needs) returns
+    (λ c κs. search needs) returns-2)

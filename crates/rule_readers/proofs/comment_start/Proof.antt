@@ -4,21 +4,6 @@ use borrow.Author.Needs.{needs}
 use Rattle.rule_readers.proofs.comment_start.Statement.{statement}
 use Rattle.rule_readers.proofs.comment_start.Tie as tie
 
-pos-of-requires : tie.Need-pos-of-requires
-pos-of-requires c κs = search needs
-
-cast-advance : tie.Need-cast-advance
-cast-advance c = search needs
-
-advance-requires : tie.Need-advance-requires
-advance-requires c κs = search needs
-
-open-comment-requires : tie.Need-open-comment-requires
-open-comment-requires c κs = search needs
-
-cast-comment : tie.Need-cast-comment
-cast-comment c = search needs
-
 comment-requires : tie.Need-comment-requires
 comment-requires c κs = in-comment (c .before .before .before .before .before .before .before .before .pre) (c .before .before .before .before .pos-of .ensures) (c .before .before .advance .ensures) (c .before .open-comment .ensures)
 
@@ -29,10 +14,5 @@ pub comment-start-spec : {M : Type 1} → statement M
 comment-start-spec =
     tie.close
     (tie.spec
-    pos-of-requires
-    cast-advance
-    advance-requires
-    open-comment-requires
-    cast-comment
-    comment-requires
+    (λ c κs. search needs) (λ c. search needs) (λ c κs. search needs) (λ c κs. search needs) (λ c. search needs) comment-requires
     returns)

@@ -5,24 +5,14 @@ use borrow.Author.Needs.{needs}
 use Rattle.rule_readers.proofs.header_at.Statement.{statement}
 use Rattle.rule_readers.proofs.header_at.Tie as tie
 
-pos-of-requires : tie.Need-pos-of-requires
-pos-of-requires c κs = search needs
-
-cast-pos-of : tie.Need-cast-pos-of
-cast-pos-of c = search needs
-
 pos-of-requires-2 : tie.Need-pos-of-requires-2
 pos-of-requires-2 c κs = end-asked (c .before .before .before .before .pre .0) _ (c .pos-of .ensures)
-
-cast-t12 : tie.Need-cast-t12
-cast-t12 c = search needs
-
-add-t13 : tie.Need-add-t13
-add-t13 c = search needs
 
 returns : tie.Need-returns
 returns c = header-names (c .before .before .before .before .before .before .before .before .pre .0) _ (c .before .before .before .before .pos-of .ensures) (c .before .before .before .pos-of2 .ensures)
 
 pub header-at-spec : {M : Type 1} → statement M
 header-at-spec =
-    tie.close (tie.spec pos-of-requires cast-pos-of pos-of-requires-2 cast-t12 add-t13 returns)
+    tie.close
+    (tie.spec
+    (λ c κs. search needs) (λ c. search needs) pos-of-requires-2 (λ c. search needs) (λ c. search needs) returns)

@@ -4,12 +4,6 @@ use borrow.Author.Needs.{needs}
 use Rattle.rule_readers.proofs.slashes.Statement.{statement}
 use Rattle.rule_readers.proofs.slashes.Tie as tie
 
-cast-line-comment : tie.Need-cast-line-comment
-cast-line-comment c = search needs
-
-moved-requires : tie.Need-moved-requires
-moved-requires c κs = search needs
-
 line-comment-requires : tie.Need-line-comment-requires
 line-comment-requires c κs = behind-slashes (c .before .before .before .before .pre) (c .moved .ensures)
 
@@ -17,4 +11,4 @@ returns : tie.Need-returns
 returns c = slashes-read (c .before .before .before .before .before .pre) (c .before .moved .ensures) (c .line-comment .ensures)
 
 pub slashes-spec : {M : Type 1} → statement M
-slashes-spec = tie.close (tie.spec cast-line-comment moved-requires line-comment-requires returns)
+slashes-spec = tie.close (tie.spec (λ c. search needs) (λ c κs. search needs) line-comment-requires returns)

@@ -8,21 +8,6 @@ use borrow.Author.Needs.{needs}
 use Rattle.rule_words.proofs.capital_name.Statement.{statement}
 use Rattle.rule_words.proofs.capital_name.Tie as tie
 
-cast-i : tie.Need-cast-i
-cast-i c = search needs
-
-sub-constructor : tie.Need-sub-constructor
-sub-constructor c = search needs
-
-part-constructor-start : tie.Need-part-constructor-start
-part-constructor-start c = search needs
-
-part-constructor-end : tie.Need-part-constructor-end
-part-constructor-end c = search needs
-
-constructor-requires : tie.Need-constructor-requires
-constructor-requires c κs = search needs
-
 worded-requires : tie.Need-worded-requires
 unfolding constructors
 worded-requires c κs = placed 86 _ constructors (omega arith) (c .constructor .ensures)
@@ -35,10 +20,4 @@ pub capital-name-spec : {M : Type 1} → statement M
 capital-name-spec =
     tie.close
     (tie.spec
-    cast-i
-    sub-constructor
-    part-constructor-start
-    part-constructor-end
-    constructor-requires
-    worded-requires
-    returns)
+    (λ c. search needs) (λ c. search needs) (λ c. search needs) (λ c. search needs) (λ c κs. search needs) worded-requires returns)

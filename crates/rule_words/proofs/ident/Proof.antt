@@ -8,35 +8,8 @@ use borrow.Author.Needs.{needs}
 use Rattle.rule_words.proofs.ident.Statement.{statement}
 use Rattle.rule_words.proofs.ident.Tie as tie
 
-cast-i : tie.Need-cast-i
-cast-i c = search needs
-
-sub-reserved : tie.Need-sub-reserved
-sub-reserved c = search needs
-
-part-reserved-start : tie.Need-part-reserved-start
-part-reserved-start c = search needs
-
-part-reserved-end : tie.Need-part-reserved-end
-part-reserved-end c = search needs
-
-reserved-requires : tie.Need-reserved-requires
-reserved-requires c κs = search needs
-
 returns : tie.Need-returns
 returns c = λ name. reserved-rules (c .before .before .before .before .before .before .pre) name _ (c .before .reserved .ensures) (c .if1 .taken)
-
-sub-keyword : tie.Need-sub-keyword
-sub-keyword c = search needs
-
-part-keyword-start : tie.Need-part-keyword-start
-part-keyword-start c = search needs
-
-part-keyword-end : tie.Need-part-keyword-end
-part-keyword-end c = search needs
-
-keyword-requires : tie.Need-keyword-requires
-keyword-requires c κs = search needs
 
 worded-requires : tie.Need-worded-requires
 unfolding keywords
@@ -50,15 +23,5 @@ pub ident-spec : {M : Type 1} → statement M
 ident-spec =
     tie.close
     (tie.spec
-    cast-i
-    sub-reserved
-    part-reserved-start
-    part-reserved-end
-    reserved-requires
-    returns
-    sub-keyword
-    part-keyword-start
-    part-keyword-end
-    keyword-requires
-    worded-requires
-    returns-2)
+    (λ c. search needs) (λ c. search needs) (λ c. search needs) (λ c. search needs) (λ c κs. search needs) returns
+    (λ c. search needs) (λ c. search needs) (λ c. search needs) (λ c κs. search needs) worded-requires returns-2)

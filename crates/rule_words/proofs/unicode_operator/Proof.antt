@@ -8,21 +8,6 @@ use borrow.Author.Needs.{needs}
 use Rattle.rule_words.proofs.unicode_operator.Statement.{statement}
 use Rattle.rule_words.proofs.unicode_operator.Tie as tie
 
-cast-i : tie.Need-cast-i
-cast-i c = search needs
-
-sub-uoperator : tie.Need-sub-uoperator
-sub-uoperator c = search needs
-
-part-uoperator-start : tie.Need-part-uoperator-start
-part-uoperator-start c = search needs
-
-part-uoperator-end : tie.Need-part-uoperator-end
-part-uoperator-end c = search needs
-
-uoperator-requires : tie.Need-uoperator-requires
-uoperator-requires c κs = search needs
-
 worded-requires : tie.Need-worded-requires
 unfolding uoperators
 worded-requires c κs = placed 89 _ uoperators (omega arith) (c .uoperator .ensures)
@@ -35,10 +20,4 @@ pub unicode-operator-spec : {M : Type 1} → statement M
 unicode-operator-spec =
     tie.close
     (tie.spec
-    cast-i
-    sub-uoperator
-    part-uoperator-start
-    part-uoperator-end
-    uoperator-requires
-    worded-requires
-    returns)
+    (λ c. search needs) (λ c. search needs) (λ c. search needs) (λ c. search needs) (λ c κs. search needs) worded-requires returns)

@@ -5,17 +5,8 @@ use borrow.Author.Needs.{needs}
 use Rattle.rule_words.proofs.worded.Statement.{statement}
 use Rattle.rule_words.proofs.worded.Tie as tie
 
-cast-i : tie.Need-cast-i
-cast-i c = search needs
-
-enum-known-word : tie.Need-enum-known-word
-enum-known-word c = search needs
-
 kind-at-requires : tie.Need-kind-at-requires
 kind-at-requires c κs = omega (arith, rw (c .before .word .given .1) at (c .before .before .before .before .before .pre))
-
-enum-told : tie.Need-enum-told
-enum-told c = search needs
 
 returns : tie.Need-returns
 returns c = λ s name h. word-rules h name _ _ _ _ (rw (c .before .before .word .given .1) at (c .before .before .before .before .before .before .pre)) (c .before .before .word .given .1) (c .kind-at .ensures)
@@ -25,4 +16,4 @@ returns-2 c = λ s name h. lexeme-rules h name _ _ (c .enum-told .given .1)
 
 pub worded-spec : {M : Type 1} → statement M
 worded-spec =
-    tie.close (tie.spec cast-i enum-known-word kind-at-requires enum-told returns returns-2)
+    tie.close (tie.spec (λ c. search needs) (λ c. search needs) kind-at-requires (λ c. search needs) returns returns-2)

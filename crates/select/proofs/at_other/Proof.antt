@@ -5,35 +5,14 @@ use borrow.Author.Needs.{needs}
 use Rattle.select.proofs.at_other.Statement.{statement}
 use Rattle.select.proofs.at_other.Tie as tie
 
-is-ident-start-requires : tie.Need-is-ident-start-requires
-is-ident-start-requires c κs = search needs
-
-at-letter-requires : tie.Need-at-letter-requires
-at-letter-requires c κs = search needs
-
 returns : tie.Need-returns
 returns c = c .at-letter .ensures ∙ sym (other-letter _ (c .before .before .before .before .before .pre .1) (sym (c .before .before .is-ident-start .ensures) ∙ c .before .if1 .taken))
-
-is-constructor-start-requires : tie.Need-is-constructor-start-requires
-is-constructor-start-requires c κs = search needs
-
-at-capital-requires : tie.Need-at-capital-requires
-at-capital-requires c κs = search needs
 
 returns-2 : tie.Need-returns-2
 returns-2 c = c .at-capital .ensures ∙ sym (other-capital _ (c .before .before .before .before .before .before .before .pre .1) (sym (c .before .before .is-constructor-start .ensures) ∙ c .before .if2 .taken))
 
-is-digit-requires : tie.Need-is-digit-requires
-is-digit-requires c κs = search needs
-
-at-digit-requires : tie.Need-at-digit-requires
-at-digit-requires c κs = search needs
-
 returns-3 : tie.Need-returns-3
 returns-3 c = c .at-digit .ensures ∙ sym (other-digit _ (c .before .before .before .before .before .before .before .before .before .pre .1) (sym (c .before .before .is-digit .ensures) ∙ c .before .if3 .taken))
-
-nothing-requires : tie.Need-nothing-requires
-nothing-requires c κs = search needs
 
 returns-4 : tie.Need-returns-4
 returns-4 c =
@@ -46,14 +25,5 @@ pub at-other-spec : {M : Type 1} → statement M
 at-other-spec =
     tie.close
     (tie.spec
-    is-ident-start-requires
-    at-letter-requires
-    returns
-    is-constructor-start-requires
-    at-capital-requires
-    returns-2
-    is-digit-requires
-    at-digit-requires
-    returns-3
-    nothing-requires
-    returns-4)
+    (λ c κs. search needs) (λ c κs. search needs) returns (λ c κs. search needs) (λ c κs. search needs) returns-2
+    (λ c κs. search needs) (λ c κs. search needs) returns-3 (λ c κs. search needs) returns-4)

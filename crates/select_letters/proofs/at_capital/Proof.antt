@@ -5,14 +5,8 @@ use borrow.Author.Needs.{needs}
 use Rattle.select_letters.proofs.at_capital.Statement.{statement}
 use Rattle.select_letters.proofs.at_capital.Tie as tie
 
-name-behind-requires : tie.Need-name-behind-requires
-name-behind-requires c κs = search needs
-
-alone-requires : tie.Need-alone-requires
-alone-requires c κs = search needs
-
 returns : tie.Need-returns
 returns c = placed _ _ (c .alone .ensures) refl (c .before .name-behind .ensures)
 
 pub at-capital-spec : {M : Type 1} → statement M
-at-capital-spec = tie.close (tie.spec name-behind-requires alone-requires returns)
+at-capital-spec = tie.close (tie.spec (λ c κs. search needs) (λ c κs. search needs) returns)

@@ -5,18 +5,6 @@ use borrow.Author.Needs.{needs}
 use Rattle.select_letters.proofs.at_keyword_letter.Statement.{statement}
 use Rattle.select_letters.proofs.at_keyword_letter.Tie as tie
 
-kw-op-requires : tie.Need-kw-op-requires
-kw-op-requires c κs = search needs
-
-first-requires : tie.Need-first-requires
-first-requires c κs = search needs
-
-name-behind-requires : tie.Need-name-behind-requires
-name-behind-requires c κs = search needs
-
-try-place-requires : tie.Need-try-place-requires
-try-place-requires c κs = search needs
-
 returns : tie.Need-returns
 returns c =
     let d = c .before .before in
@@ -27,4 +15,5 @@ returns c =
 pub at-keyword-letter-spec : {M : Type 1} → statement M
 at-keyword-letter-spec =
     tie.close
-    (tie.spec kw-op-requires first-requires name-behind-requires try-place-requires returns)
+    (tie.spec
+    (λ c κs. search needs) (λ c κs. search needs) (λ c κs. search needs) (λ c κs. search needs) returns)

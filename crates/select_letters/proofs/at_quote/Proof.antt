@@ -5,24 +5,6 @@ use borrow.Author.Needs.{needs}
 use Rattle.select_letters.proofs.at_quote.Statement.{statement}
 use Rattle.select_letters.proofs.at_quote.Tie as tie
 
-match-char-lit-requires : tie.Need-match-char-lit-requires
-match-char-lit-requires c κs = search needs
-
-alone-requires : tie.Need-alone-requires
-alone-requires c κs = search needs
-
-match-char-lit-requires-2 : tie.Need-match-char-lit-requires-2
-match-char-lit-requires-2 c κs = search needs
-
-try-place-requires : tie.Need-try-place-requires
-try-place-requires c κs = search needs
-
-name-behind-requires : tie.Need-name-behind-requires
-name-behind-requires c κs = search needs
-
-try-place-requires-2 : tie.Need-try-place-requires-2
-try-place-requires-2 c κs = search needs
-
 returns : tie.Need-returns
 returns c =
     let d = c .before .before in
@@ -37,10 +19,5 @@ pub at-quote-spec : {M : Type 1} → statement M
 at-quote-spec =
     tie.close
     (tie.spec
-    match-char-lit-requires
-    alone-requires
-    match-char-lit-requires-2
-    try-place-requires
-    name-behind-requires
-    try-place-requires-2
-    returns)
+    (λ c κs. search needs) (λ c κs. search needs) (λ c κs. search needs) (λ c κs. search needs) (λ c κs. search needs)
+    (λ c κs. search needs) returns)

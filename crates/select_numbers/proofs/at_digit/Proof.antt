@@ -7,26 +7,8 @@ use borrow.Author.Needs.{needs}
 use Rattle.select_numbers.proofs.at_digit.Statement.{statement}
 use Rattle.select_numbers.proofs.at_digit.Tie as tie
 
-any-integer-ends-requires : tie.Need-any-integer-ends-requires
-any-integer-ends-requires c κs = search needs
-
-floatp-after-requires : tie.Need-floatp-after-requires
-floatp-after-requires c κs = search needs
-
 at-integers-requires : tie.Need-at-integers-requires
 at-integers-requires c κs = c .before .any-integer-ends .ensures
-
-real-after-requires : tie.Need-real-after-requires
-real-after-requires c κs = search needs
-
-try-place-requires : tie.Need-try-place-requires
-try-place-requires c κs = search needs
-
-bad-number-after-requires : tie.Need-bad-number-after-requires
-bad-number-after-requires c κs = search needs
-
-try-place-requires-2 : tie.Need-try-place-requires-2
-try-place-requires-2 c κs = search needs
 
 returns : tie.Need-returns
 returns c =
@@ -44,11 +26,5 @@ pub at-digit-spec : {M : Type 1} → statement M
 at-digit-spec =
     tie.close
     (tie.spec
-    any-integer-ends-requires
-    floatp-after-requires
-    at-integers-requires
-    real-after-requires
-    try-place-requires
-    bad-number-after-requires
-    try-place-requires-2
-    returns)
+    (λ c κs. search needs) (λ c κs. search needs) at-integers-requires (λ c κs. search needs) (λ c κs. search needs)
+    (λ c κs. search needs) (λ c κs. search needs) returns)

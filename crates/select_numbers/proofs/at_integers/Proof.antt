@@ -8,62 +8,26 @@ use borrow.Author.Needs.{needs}
 use Rattle.select_numbers.proofs.at_integers.Statement.{statement}
 use Rattle.select_numbers.proofs.at_integers.Tie as tie
 
-latest-requires : tie.Need-latest-requires
-latest-requires c κs = search needs
-
-alone-requires : tie.Need-alone-requires
-alone-requires c κs = search needs
-
-byte-after-requires : tie.Need-byte-after-requires
-byte-after-requires c κs = search needs
-
-try-place-requires : tie.Need-try-place-requires
-try-place-requires c κs = search needs
-
-slice-aggregate-try-suffix : tie.Need-slice-aggregate-try-suffix
-slice-aggregate-try-suffix c = search needs
-
 try-suffix-requires : tie.Need-try-suffix-requires
 try-suffix-requires c κs = c .before .before .before .before .before .before .pre
-
-slice-aggregate-try-usuffix : tie.Need-slice-aggregate-try-usuffix
-slice-aggregate-try-usuffix c = search needs
 
 try-usuffix-requires : tie.Need-try-usuffix-requires
 try-usuffix-requires c κs = c .before .before .before .before .before .before .before .before .pre
 
-slice-aggregate-try-suffix-2 : tie.Need-slice-aggregate-try-suffix-2
-slice-aggregate-try-suffix-2 c = search needs
-
 try-suffix-requires-2 : tie.Need-try-suffix-requires-2
 try-suffix-requires-2 c κs = c .before .before .before .before .before .before .before .before .before .before .pre
-
-slice-aggregate-try-usuffix-2 : tie.Need-slice-aggregate-try-usuffix-2
-slice-aggregate-try-usuffix-2 c = search needs
 
 try-usuffix-requires-2 : tie.Need-try-usuffix-requires-2
 try-usuffix-requires-2 c κs = c .before .before .before .before .before .before .before .before .before .before .before .before .pre
 
-slice-aggregate-try-suffix-3 : tie.Need-slice-aggregate-try-suffix-3
-slice-aggregate-try-suffix-3 c = search needs
-
 try-suffix-requires-3 : tie.Need-try-suffix-requires-3
 try-suffix-requires-3 c κs = c .before .before .before .before .before .before .before .before .before .before .before .before .before .before .pre
-
-slice-aggregate-try-usuffix-3 : tie.Need-slice-aggregate-try-usuffix-3
-slice-aggregate-try-usuffix-3 c = search needs
 
 try-usuffix-requires-3 : tie.Need-try-usuffix-requires-3
 try-usuffix-requires-3 c κs = c .before .before .before .before .before .before .before .before .before .before .before .before .before .before .before .before .pre
 
-slice-aggregate-try-suffix-4 : tie.Need-slice-aggregate-try-suffix-4
-slice-aggregate-try-suffix-4 c = search needs
-
 try-suffix-requires-4 : tie.Need-try-suffix-requires-4
 try-suffix-requires-4 c κs = c .before .before .before .before .before .before .before .before .before .before .before .before .before .before .before .before .before .before .pre
-
-slice-aggregate-try-suffix-5 : tie.Need-slice-aggregate-try-suffix-5
-slice-aggregate-try-suffix-5 c = search needs
 
 try-suffix-requires-5 : tie.Need-try-suffix-requires-5
 try-suffix-requires-5 c κs = c .before .before .before .before .before .before .before .before .before .before .before .before .before .before .before .before .before .before .before .before .pre
@@ -104,24 +68,7 @@ pub at-integers-spec : {M : Type 1} → statement M
 at-integers-spec =
     tie.close
     (tie.spec
-    latest-requires
-    alone-requires
-    byte-after-requires
-    try-place-requires
-    slice-aggregate-try-suffix
-    try-suffix-requires
-    slice-aggregate-try-usuffix
-    try-usuffix-requires
-    slice-aggregate-try-suffix-2
-    try-suffix-requires-2
-    slice-aggregate-try-usuffix-2
-    try-usuffix-requires-2
-    slice-aggregate-try-suffix-3
-    try-suffix-requires-3
-    slice-aggregate-try-usuffix-3
-    try-usuffix-requires-3
-    slice-aggregate-try-suffix-4
-    try-suffix-requires-4
-    slice-aggregate-try-suffix-5
-    try-suffix-requires-5
-    returns)
+    (λ c κs. search needs) (λ c κs. search needs) (λ c κs. search needs) (λ c κs. search needs) (λ c. search needs)
+    try-suffix-requires (λ c. search needs) try-usuffix-requires (λ c. search needs) try-suffix-requires-2 (λ c. search needs)
+    try-usuffix-requires-2 (λ c. search needs) try-suffix-requires-3 (λ c. search needs) try-usuffix-requires-3
+    (λ c. search needs) try-suffix-requires-4 (λ c. search needs) try-suffix-requires-5 returns)

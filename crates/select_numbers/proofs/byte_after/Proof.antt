@@ -7,21 +7,6 @@ use borrow.Author.Needs.{needs}
 use Rattle.select_numbers.proofs.byte_after.Statement.{statement}
 use Rattle.select_numbers.proofs.byte_after.Tie as tie
 
-slice-aggregate-usuffix-after : tie.Need-slice-aggregate-usuffix-after
-slice-aggregate-usuffix-after c = search needs
-
-usuffix-after-requires : tie.Need-usuffix-after-requires
-usuffix-after-requires c κs = search needs
-
-slice-aggregate-suffix-after : tie.Need-slice-aggregate-suffix-after
-slice-aggregate-suffix-after c = search needs
-
-suffix-after-requires : tie.Need-suffix-after-requires
-suffix-after-requires c κs = search needs
-
-later-requires : tie.Need-later-requires
-later-requires c κs = search needs
-
 returns : tie.Need-returns
 unfolding cps encode-all encode
 returns c =
@@ -34,9 +19,4 @@ pub byte-after-spec : {M : Type 1} → statement M
 byte-after-spec =
     tie.close
     (tie.spec
-    slice-aggregate-usuffix-after
-    usuffix-after-requires
-    slice-aggregate-suffix-after
-    suffix-after-requires
-    later-requires
-    returns)
+    (λ c. search needs) (λ c κs. search needs) (λ c. search needs) (λ c κs. search needs) (λ c κs. search needs) returns)

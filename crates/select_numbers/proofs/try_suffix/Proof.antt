@@ -6,14 +6,8 @@ use borrow.Author.Needs.{needs}
 use Rattle.select_numbers.proofs.try_suffix.Statement.{statement}
 use Rattle.select_numbers.proofs.try_suffix.Tie as tie
 
-suffix-after-requires : tie.Need-suffix-after-requires
-suffix-after-requires c κs = search needs
-
-try-place-requires : tie.Need-try-place-requires
-try-place-requires c κs = search needs
-
 returns : tie.Need-returns
 returns c = placed _ _ (c .try-place .ensures) refl (ends-of _ _ _ (c .before .suffix-after .ensures) (c .before .before .before .before .pre) ∙ suffix-is _ _ _)
 
 pub try-suffix-spec : {M : Type 1} → statement M
-try-suffix-spec = tie.close (tie.spec suffix-after-requires try-place-requires returns)
+try-suffix-spec = tie.close (tie.spec (λ c κs. search needs) (λ c κs. search needs) returns)

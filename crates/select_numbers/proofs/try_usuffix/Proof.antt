@@ -6,14 +6,8 @@ use borrow.Author.Needs.{needs}
 use Rattle.select_numbers.proofs.try_usuffix.Statement.{statement}
 use Rattle.select_numbers.proofs.try_usuffix.Tie as tie
 
-usuffix-after-requires : tie.Need-usuffix-after-requires
-usuffix-after-requires c κs = search needs
-
-try-place-requires : tie.Need-try-place-requires
-try-place-requires c κs = search needs
-
 returns : tie.Need-returns
 returns c = placed _ _ (c .try-place .ensures) refl (ends-of _ _ _ (c .before .usuffix-after .ensures) (c .before .before .before .before .pre) ∙ usuffix-is _ _ _)
 
 pub try-usuffix-spec : {M : Type 1} → statement M
-try-usuffix-spec = tie.close (tie.spec usuffix-after-requires try-place-requires returns)
+try-usuffix-spec = tie.close (tie.spec (λ c κs. search needs) (λ c κs. search needs) returns)

@@ -8,36 +8,6 @@ use borrow.Author.Needs.{needs}
 use Rattle.select_operators.proofs.at_bar.Statement.{statement}
 use Rattle.select_operators.proofs.at_bar.Tie as tie
 
-slice-aggregate-match-lit : tie.Need-slice-aggregate-match-lit
-slice-aggregate-match-lit c = search needs
-
-match-lit-requires : tie.Need-match-lit-requires
-match-lit-requires c κs = search needs
-
-alone-requires : tie.Need-alone-requires
-alone-requires c κs = search needs
-
-op-token-requires : tie.Need-op-token-requires
-op-token-requires c κs = search needs
-
-keep-requires : tie.Need-keep-requires
-keep-requires c κs = search needs
-
-slice-aggregate-lit-then-symbols : tie.Need-slice-aggregate-lit-then-symbols
-slice-aggregate-lit-then-symbols c = search needs
-
-lit-then-symbols-requires : tie.Need-lit-then-symbols-requires
-lit-then-symbols-requires c κs = search needs
-
-try-place-requires : tie.Need-try-place-requires
-try-place-requires c κs = search needs
-
-symbols-behind-requires : tie.Need-symbols-behind-requires
-symbols-behind-requires c κs = search needs
-
-try-place-requires-2 : tie.Need-try-place-requires-2
-try-place-requires-2 c κs = search needs
-
 returns : tie.Need-returns
 unfolding cps encode-all encode lit-then-symbols
 returns c =
@@ -56,14 +26,5 @@ pub at-bar-spec : {M : Type 1} → statement M
 at-bar-spec =
     tie.close
     (tie.spec
-    slice-aggregate-match-lit
-    match-lit-requires
-    alone-requires
-    op-token-requires
-    keep-requires
-    slice-aggregate-lit-then-symbols
-    lit-then-symbols-requires
-    try-place-requires
-    symbols-behind-requires
-    try-place-requires-2
-    returns)
+    (λ c. search needs) (λ c κs. search needs) (λ c κs. search needs) (λ c κs. search needs) (λ c κs. search needs)
+    (λ c. search needs) (λ c κs. search needs) (λ c κs. search needs) (λ c κs. search needs) (λ c κs. search needs) returns)

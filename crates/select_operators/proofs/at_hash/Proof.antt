@@ -7,27 +7,6 @@ use borrow.Author.Needs.{needs}
 use Rattle.select_operators.proofs.at_hash.Statement.{statement}
 use Rattle.select_operators.proofs.at_hash.Tie as tie
 
-early-literal-requires : tie.Need-early-literal-requires
-early-literal-requires c κs = search needs
-
-first-requires : tie.Need-first-requires
-first-requires c κs = search needs
-
-slice-aggregate-lit-then-ident : tie.Need-slice-aggregate-lit-then-ident
-slice-aggregate-lit-then-ident c = search needs
-
-lit-then-ident-requires : tie.Need-lit-then-ident-requires
-lit-then-ident-requires c κs = search needs
-
-try-place-requires : tie.Need-try-place-requires
-try-place-requires c κs = search needs
-
-op-token-requires : tie.Need-op-token-requires
-op-token-requires c κs = search needs
-
-keep-requires : tie.Need-keep-requires
-keep-requires c κs = search needs
-
 returns : tie.Need-returns
 unfolding cps encode-all encode
 returns c =
@@ -43,11 +22,5 @@ pub at-hash-spec : {M : Type 1} → statement M
 at-hash-spec =
     tie.close
     (tie.spec
-    early-literal-requires
-    first-requires
-    slice-aggregate-lit-then-ident
-    lit-then-ident-requires
-    try-place-requires
-    op-token-requires
-    keep-requires
-    returns)
+    (λ c κs. search needs) (λ c κs. search needs) (λ c. search needs) (λ c κs. search needs) (λ c κs. search needs)
+    (λ c κs. search needs) (λ c κs. search needs) returns)

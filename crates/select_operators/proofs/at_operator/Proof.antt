@@ -5,14 +5,8 @@ use borrow.Author.Needs.{needs}
 use Rattle.select_operators.proofs.at_operator.Statement.{statement}
 use Rattle.select_operators.proofs.at_operator.Tie as tie
 
-symbols-behind-requires : tie.Need-symbols-behind-requires
-symbols-behind-requires c κs = search needs
-
-alone-requires : tie.Need-alone-requires
-alone-requires c κs = search needs
-
 returns : tie.Need-returns
 returns c = placed _ _ (c .alone .ensures) refl (c .before .symbols-behind .ensures)
 
 pub at-operator-spec : {M : Type 1} → statement M
-at-operator-spec = tie.close (tie.spec symbols-behind-requires alone-requires returns)
+at-operator-spec = tie.close (tie.spec (λ c κs. search needs) (λ c κs. search needs) returns)

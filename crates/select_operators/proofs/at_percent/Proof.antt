@@ -5,24 +5,6 @@ use borrow.Author.Needs.{needs}
 use Rattle.select_operators.proofs.at_percent.Statement.{statement}
 use Rattle.select_operators.proofs.at_percent.Tie as tie
 
-early-literal-requires : tie.Need-early-literal-requires
-early-literal-requires c κs = search needs
-
-first-requires : tie.Need-first-requires
-first-requires c κs = search needs
-
-op-token-requires : tie.Need-op-token-requires
-op-token-requires c κs = search needs
-
-keep-requires : tie.Need-keep-requires
-keep-requires c κs = search needs
-
-symbols-behind-requires : tie.Need-symbols-behind-requires
-symbols-behind-requires c κs = search needs
-
-try-place-requires : tie.Need-try-place-requires
-try-place-requires c κs = search needs
-
 returns : tie.Need-returns
 returns c =
     let d = c .before .before in
@@ -37,10 +19,5 @@ pub at-percent-spec : {M : Type 1} → statement M
 at-percent-spec =
     tie.close
     (tie.spec
-    early-literal-requires
-    first-requires
-    op-token-requires
-    keep-requires
-    symbols-behind-requires
-    try-place-requires
-    returns)
+    (λ c κs. search needs) (λ c κs. search needs) (λ c κs. search needs) (λ c κs. search needs) (λ c κs. search needs)
+    (λ c κs. search needs) returns)

@@ -7,27 +7,6 @@ use borrow.Author.Needs.{needs}
 use Rattle.select_operators.proofs.at_point.Statement.{statement}
 use Rattle.select_operators.proofs.at_point.Tie as tie
 
-slice-aggregate-match-lit : tie.Need-slice-aggregate-match-lit
-slice-aggregate-match-lit c = search needs
-
-match-lit-requires : tie.Need-match-lit-requires
-match-lit-requires c κs = search needs
-
-alone-requires : tie.Need-alone-requires
-alone-requires c κs = search needs
-
-op-token-requires : tie.Need-op-token-requires
-op-token-requires c κs = search needs
-
-keep-requires : tie.Need-keep-requires
-keep-requires c κs = search needs
-
-mixfix-word-requires : tie.Need-mixfix-word-requires
-mixfix-word-requires c κs = search needs
-
-keep-requires-2 : tie.Need-keep-requires-2
-keep-requires-2 c κs = search needs
-
 returns : tie.Need-returns
 unfolding cps encode-all encode
 returns c =
@@ -43,11 +22,5 @@ pub at-point-spec : {M : Type 1} → statement M
 at-point-spec =
     tie.close
     (tie.spec
-    slice-aggregate-match-lit
-    match-lit-requires
-    alone-requires
-    op-token-requires
-    keep-requires
-    mixfix-word-requires
-    keep-requires-2
-    returns)
+    (λ c. search needs) (λ c κs. search needs) (λ c κs. search needs) (λ c κs. search needs) (λ c κs. search needs)
+    (λ c κs. search needs) (λ c κs. search needs) returns)

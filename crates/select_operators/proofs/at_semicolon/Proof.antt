@@ -7,27 +7,6 @@ use borrow.Author.Needs.{needs}
 use Rattle.select_operators.proofs.at_semicolon.Statement.{statement}
 use Rattle.select_operators.proofs.at_semicolon.Tie as tie
 
-kw-op-requires : tie.Need-kw-op-requires
-kw-op-requires c κs = search needs
-
-first-requires : tie.Need-first-requires
-first-requires c κs = search needs
-
-slice-aggregate-match-lit : tie.Need-slice-aggregate-match-lit
-slice-aggregate-match-lit c = search needs
-
-match-lit-requires : tie.Need-match-lit-requires
-match-lit-requires c κs = search needs
-
-try-place-requires : tie.Need-try-place-requires
-try-place-requires c κs = search needs
-
-op-token-requires : tie.Need-op-token-requires
-op-token-requires c κs = search needs
-
-keep-requires : tie.Need-keep-requires
-keep-requires c κs = search needs
-
 returns : tie.Need-returns
 unfolding cps encode-all encode
 returns c =
@@ -43,11 +22,5 @@ pub at-semicolon-spec : {M : Type 1} → statement M
 at-semicolon-spec =
     tie.close
     (tie.spec
-    kw-op-requires
-    first-requires
-    slice-aggregate-match-lit
-    match-lit-requires
-    try-place-requires
-    op-token-requires
-    keep-requires
-    returns)
+    (λ c κs. search needs) (λ c κs. search needs) (λ c. search needs) (λ c κs. search needs) (λ c κs. search needs)
+    (λ c κs. search needs) (λ c κs. search needs) returns)

@@ -8,21 +8,6 @@ use borrow.Author.Needs.{needs}
 use Rattle.select_operators.proofs.at_star.Statement.{statement}
 use Rattle.select_operators.proofs.at_star.Tie as tie
 
-slice-aggregate-lit-then-symbols : tie.Need-slice-aggregate-lit-then-symbols
-slice-aggregate-lit-then-symbols c = search needs
-
-lit-then-symbols-requires : tie.Need-lit-then-symbols-requires
-lit-then-symbols-requires c κs = search needs
-
-alone-requires : tie.Need-alone-requires
-alone-requires c κs = search needs
-
-symbols-behind-requires : tie.Need-symbols-behind-requires
-symbols-behind-requires c κs = search needs
-
-try-place-requires : tie.Need-try-place-requires
-try-place-requires c κs = search needs
-
 returns : tie.Need-returns
 unfolding cps encode-all encode lit-then-symbols
 returns c =
@@ -35,9 +20,4 @@ pub at-star-spec : {M : Type 1} → statement M
 at-star-spec =
     tie.close
     (tie.spec
-    slice-aggregate-lit-then-symbols
-    lit-then-symbols-requires
-    alone-requires
-    symbols-behind-requires
-    try-place-requires
-    returns)
+    (λ c. search needs) (λ c κs. search needs) (λ c κs. search needs) (λ c κs. search needs) (λ c κs. search needs) returns)

@@ -5,14 +5,8 @@ use borrow.Author.Needs.{needs}
 use Rattle.select_operators.proofs.at_token.Statement.{statement}
 use Rattle.select_operators.proofs.at_token.Tie as tie
 
-op-token-requires : tie.Need-op-token-requires
-op-token-requires c κs = search needs
-
-first-requires : tie.Need-first-requires
-first-requires c κs = search needs
-
 returns : tie.Need-returns
 returns c = kept (c .first .ensures) refl (c .before .op-token .ensures)
 
 pub at-token-spec : {M : Type 1} → statement M
-at-token-spec = tie.close (tie.spec op-token-requires first-requires returns)
+at-token-spec = tie.close (tie.spec (λ c κs. search needs) (λ c κs. search needs) returns)

@@ -4,15 +4,6 @@ use borrow.Author.Needs.{needs}
 use Rattle.select_operators.proofs.at_token_operator.Statement.{statement}
 use Rattle.select_operators.proofs.at_token_operator.Tie as tie
 
-at-token-requires : tie.Need-at-token-requires
-at-token-requires c κs = search needs
-
-symbols-behind-requires : tie.Need-symbols-behind-requires
-symbols-behind-requires c κs = search needs
-
-try-place-requires : tie.Need-try-place-requires
-try-place-requires c κs = search needs
-
 returns : tie.Need-returns
 returns c =
     let d = c .before .before in
@@ -22,4 +13,4 @@ returns c =
 
 pub at-token-operator-spec : {M : Type 1} → statement M
 at-token-operator-spec =
-    tie.close (tie.spec at-token-requires symbols-behind-requires try-place-requires returns)
+    tie.close (tie.spec (λ c κs. search needs) (λ c κs. search needs) (λ c κs. search needs) returns)

@@ -6,20 +6,8 @@ use borrow.Author.Needs.{needs}
 use Rattle.select_operators.proofs.lit_then_symbols.Statement.{statement}
 use Rattle.select_operators.proofs.lit_then_symbols.Tie as tie
 
-match-lit-requires : tie.Need-match-lit-requires
-match-lit-requires c κs = search needs
-
-enum-known-e : tie.Need-enum-known-e
-enum-known-e c = search needs
-
-enum-told : tie.Need-enum-told
-enum-told c = search needs
-
 returns : tie.Need-returns
 returns c = then-no _ (sym (c .before .before .match-lit .ensures) ∙ c .enum-told .given .1)
-
-star-symbolchar-requires : tie.Need-star-symbolchar-requires
-star-symbolchar-requires c κs = search needs
 
 returns-2 : tie.Need-returns-2
 returns-2 c = then-yes _ (sym (c .before .before .before .before .match-lit .ensures) ∙ c .before .before .e .given .1) (ap To (c .star-symbolchar .ensures))
@@ -27,4 +15,5 @@ returns-2 c = then-yes _ (sym (c .before .before .before .before .match-lit .ens
 pub lit-then-symbols-spec : {M : Type 1} → statement M
 lit-then-symbols-spec =
     tie.close
-    (tie.spec match-lit-requires enum-known-e enum-told returns star-symbolchar-requires returns-2)
+    (tie.spec
+    (λ c κs. search needs) (λ c. search needs) (λ c. search needs) returns (λ c κs. search needs) returns-2)

@@ -5,14 +5,8 @@ use borrow.Author.Needs.{needs}
 use Rattle.select_places.proofs.alone.Statement.{statement}
 use Rattle.select_places.proofs.alone.Tie as tie
 
-nothing-requires : tie.Need-nothing-requires
-nothing-requires c κs = search needs
-
-try-place-requires : tie.Need-try-place-requires
-try-place-requires c κs = search needs
-
 returns : tie.Need-returns
 returns c = kept (c .try-place .ensures) (c .before .nothing .ensures) refl
 
 pub alone-spec : {M : Type 1} → statement M
-alone-spec = tie.close (tie.spec nothing-requires try-place-requires returns)
+alone-spec = tie.close (tie.spec (λ c κs. search needs) (λ c κs. search needs) returns)

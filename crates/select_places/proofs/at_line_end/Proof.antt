@@ -5,14 +5,8 @@ use borrow.Author.Needs.{needs}
 use Rattle.select_places.proofs.at_line_end.Statement.{statement}
 use Rattle.select_places.proofs.at_line_end.Tie as tie
 
-match-newline-requires : tie.Need-match-newline-requires
-match-newline-requires c κs = search needs
-
-found-requires : tie.Need-found-requires
-found-requires c κs = search needs
-
 returns : tie.Need-returns
 returns c = c .found .ensures ∙ ap (found _ _ 0) (c .before .match-newline .ensures)
 
 pub at-line-end-spec : {M : Type 1} → statement M
-at-line-end-spec = tie.close (tie.spec match-newline-requires found-requires returns)
+at-line-end-spec = tie.close (tie.spec (λ c κs. search needs) (λ c κs. search needs) returns)

@@ -5,14 +5,8 @@ use borrow.Author.Needs.{needs}
 use Rattle.select_places.proofs.at_white.Statement.{statement}
 use Rattle.select_places.proofs.at_white.Tie as tie
 
-plus-anywhite-requires : tie.Need-plus-anywhite-requires
-plus-anywhite-requires c κs = search needs
-
-found-requires : tie.Need-found-requires
-found-requires c κs = search needs
-
 returns : tie.Need-returns
 returns c = c .found .ensures ∙ ap (found _ _ 0) (c .before .plus-anywhite .ensures)
 
 pub at-white-spec : {M : Type 1} → statement M
-at-white-spec = tie.close (tie.spec plus-anywhite-requires found-requires returns)
+at-white-spec = tie.close (tie.spec (λ c κs. search needs) (λ c κs. search needs) returns)

@@ -5,20 +5,8 @@ use borrow.Author.Needs.{needs}
 use Rattle.select_places.proofs.lit_then_ident.Statement.{statement}
 use Rattle.select_places.proofs.lit_then_ident.Tie as tie
 
-match-lit-requires : tie.Need-match-lit-requires
-match-lit-requires c κs = search needs
-
-enum-known-e : tie.Need-enum-known-e
-enum-known-e c = search needs
-
-enum-told : tie.Need-enum-told
-enum-told c = search needs
-
 returns : tie.Need-returns
 returns c = then-no _ (sym (c .before .before .match-lit .ensures) ∙ c .enum-told .given .1)
-
-match-ident-requires : tie.Need-match-ident-requires
-match-ident-requires c κs = search needs
 
 returns-2 : tie.Need-returns-2
 returns-2 c = then-yes _ (sym (c .before .before .before .before .match-lit .ensures) ∙ c .before .before .e .given .1) (c .match-ident .ensures)
@@ -26,4 +14,5 @@ returns-2 c = then-yes _ (sym (c .before .before .before .before .match-lit .ens
 pub lit-then-ident-spec : {M : Type 1} → statement M
 lit-then-ident-spec =
     tie.close
-    (tie.spec match-lit-requires enum-known-e enum-told returns match-ident-requires returns-2)
+    (tie.spec
+    (λ c κs. search needs) (λ c. search needs) (λ c. search needs) returns (λ c κs. search needs) returns-2)

@@ -5,9 +5,6 @@ use borrow.Author.Needs.{needs}
 use Rattle.select_unicode.proofs.line_end.Statement.{statement}
 use Rattle.select_unicode.proofs.line_end.Tie as tie
 
-is-newline-char-requires : tie.Need-is-newline-char-requires
-is-newline-char-requires c κs = search needs
-
 returns : tie.Need-returns
 returns c = only-yes (sym (c .before .is-newline-char .ensures) ∙ c .if1 .taken) refl
 
@@ -15,4 +12,4 @@ returns-2 : tie.Need-returns-2
 returns-2 c = only-no _ (sym (c .before .is-newline-char .ensures) ∙ c .if1 .left)
 
 pub line-end-spec : {M : Type 1} → statement M
-line-end-spec = tie.close (tie.spec is-newline-char-requires returns returns-2)
+line-end-spec = tie.close (tie.spec (λ c κs. search needs) returns returns-2)

@@ -5,20 +5,11 @@ use borrow.Author.Needs.{needs}
 use Rattle.select_unicode.proofs.quantifier.Statement.{statement}
 use Rattle.select_unicode.proofs.quantifier.Tie as tie
 
-kw-op-requires : tie.Need-kw-op-requires
-kw-op-requires c κs = search needs
-
 returns : tie.Need-returns
 returns c = rw (c .before .if1 .taken) (c .kw-op .ensures)
 
-kw-op-requires-2 : tie.Need-kw-op-requires-2
-kw-op-requires-2 c κs = search needs
-
 returns-2 : tie.Need-returns-2
 returns-2 c = rw (c .before .if2 .taken) (c .kw-op2 .ensures)
-
-nothing-requires : tie.Need-nothing-requires
-nothing-requires c κs = search needs
 
 returns-3 : tie.Need-returns-3
 returns-3 c =
@@ -28,4 +19,5 @@ returns-3 c =
 pub quantifier-spec : {M : Type 1} → statement M
 quantifier-spec =
     tie.close
-    (tie.spec kw-op-requires returns kw-op-requires-2 returns-2 nothing-requires returns-3)
+    (tie.spec
+    (λ c κs. search needs) returns (λ c κs. search needs) returns-2 (λ c κs. search needs) returns-3)

@@ -5,9 +5,6 @@ use borrow.Author.Needs.{needs}
 use Rattle.select_unicode.proofs.uoperator.Statement.{statement}
 use Rattle.select_unicode.proofs.uoperator.Tie as tie
 
-is-uoperator-requires : tie.Need-is-uoperator-requires
-is-uoperator-requires c κs = search needs
-
 returns : tie.Need-returns
 returns c = only-yes (sym (c .before .is-uoperator .ensures) ∙ c .if1 .taken) refl
 
@@ -15,4 +12,4 @@ returns-2 : tie.Need-returns-2
 returns-2 c = only-no _ (sym (c .before .is-uoperator .ensures) ∙ c .if1 .left)
 
 pub uoperator-spec : {M : Type 1} → statement M
-uoperator-spec = tie.close (tie.spec is-uoperator-requires returns returns-2)
+uoperator-spec = tie.close (tie.spec (λ c κs. search needs) returns returns-2)

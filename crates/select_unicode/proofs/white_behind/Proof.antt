@@ -5,12 +5,6 @@ use borrow.Author.Needs.{needs}
 use Rattle.select_unicode.proofs.white_behind.Statement.{statement}
 use Rattle.select_unicode.proofs.white_behind.Tie as tie
 
-is-anywhite-requires : tie.Need-is-anywhite-requires
-is-anywhite-requires c κs = search needs
-
-star-anywhite-requires : tie.Need-star-anywhite-requires
-star-anywhite-requires c κs = search needs
-
 returns : tie.Need-returns
 returns c = only-yes (sym (c .before .before .is-anywhite .ensures) ∙ c .before .if1 .taken) (c .star-anywhite .ensures)
 
@@ -18,5 +12,4 @@ returns-2 : tie.Need-returns-2
 returns-2 c = only-no _ (sym (c .before .is-anywhite .ensures) ∙ c .if1 .left)
 
 pub white-behind-spec : {M : Type 1} → statement M
-white-behind-spec =
-    tie.close (tie.spec is-anywhite-requires star-anywhite-requires returns returns-2)
+white-behind-spec = tie.close (tie.spec (λ c κs. search needs) (λ c κs. search needs) returns returns-2)

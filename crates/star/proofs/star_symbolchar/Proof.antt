@@ -1,42 +1,28 @@
--- `star_symbolchar` is the definition's `star` over its test. The invariant: the run from `j` ends where the run from i does. A byte that passes is
--- a character that does, since only ASCII passes. The measure is what is left of the text.
+-- `star_symbolchar` is the definition's `star` over its test: a loop by bytes, since only ASCII passes.
 use Prim.Native.Nat.{_-_}
-use mathlib.Core.Path.{_≡_, refl, sym, _∙_}
+use mathlib.Core.Path.{refl}
 use lib.ListN.{length}
-use Rattle.definition.specs.Chars.{is-symbolchar}
-use Rattle.star.proofs.RunLaws.{byte-on, byte-stop, small-symbolchar}
-use Rattle.definition.specs.Text.{star}
-use Rattle.match_lit.proofs.ByteLaws.{has-inside}
 use borrow.Author.Needs.{needs}
 use native.Mathlib.Omega.{arith}
+use Rattle.definition.specs.Chars.{is-symbolchar}
+use Rattle.star.proofs.RunLaws.{small-symbolchar}
+use Rattle.star.proofs.CodeLaws.{Same-end, byte-inside, byte-turn, byte-end}
 use Rattle.star.proofs.star_symbolchar.Statement.{statement}
 use Rattle.star.proofs.star_symbolchar.Tie as tie
 
 abbrev Inv-loop : tie.InvT-loop
-Inv-loop text table i j₀ j = star is-symbolchar text j ≡ star is-symbolchar text i
+Inv-loop text table i j₀ j = Same-end is-symbolchar text i j
 
 abbrev μ-loop : tie.MeasureT-loop
 μ-loop text table i j₀ j = length text - j
 
-loop-holds : tie.Need-loop-holds Inv-loop μ-loop
-loop-holds c = refl
-
-symbolchar-at-requires : tie.Need-symbolchar-at-requires Inv-loop μ-loop
-symbolchar-at-requires c κs = search needs
-
-add-j : tie.Need-add-j Inv-loop μ-loop
-add-j c = omega (arith, has-inside _ _ _ (sym (c .before .symbolchar-at .ensures) ∙ c .if1 .taken))
-
-loop-less : tie.Need-loop-less Inv-loop μ-loop
-loop-less c = omega (arith, has-inside _ _ _ (sym (c .before .symbolchar-at .ensures) ∙ c .if1 .taken))
-
-loop-again : tie.Need-loop-again Inv-loop μ-loop
-loop-again c = sym (byte-on _ small-symbolchar _ _ (sym (c .before .symbolchar-at .ensures) ∙ c .if1 .taken)) ∙ c .before .before .loop .inv
-
-returns : tie.Need-returns Inv-loop μ-loop
-returns c = sym (byte-stop _ small-symbolchar _ _ (sym (c .before .symbolchar-at .ensures) ∙ c .if1 .left)) ∙ c .before .before .loop .inv
-
 pub star-symbolchar-spec : {M : Type 1} → statement M
 star-symbolchar-spec =
     tie.close
-    (tie.spec Inv-loop μ-loop loop-holds symbolchar-at-requires add-j loop-less loop-again returns)
+    (tie.spec Inv-loop μ-loop
+    (λ c. refl)
+    (λ c κs. search needs)
+    (λ c. omega (arith, byte-inside _ _ _ (c .before .symbolchar-at .ensures) (c .if1 .taken)))
+    (λ c. omega (arith, byte-inside _ _ _ (c .before .symbolchar-at .ensures) (c .if1 .taken)))
+    (λ c. byte-turn _ small-symbolchar _ _ _ (c .before .symbolchar-at .ensures) (c .before .before .loop .inv) (c .if1 .taken))
+    (λ c. byte-end _ small-symbolchar _ _ _ (c .before .symbolchar-at .ensures) (c .before .before .loop .inv) (c .if1 .left)))

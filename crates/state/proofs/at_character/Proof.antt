@@ -7,9 +7,6 @@ use Rattle.state.proofs.Ladders.{above-tails}
 use Rattle.state.proofs.at_character.Statement.{statement}
 use Rattle.state.proofs.at_character.Tie as tie
 
-shared-slice-read-b : tie.Need-shared-slice-read-b
-shared-slice-read-b c = search needs
-
 returns : tie.Need-returns
 unfolding at-character is-continuation
 returns c = search (all-tests, needs)
@@ -22,4 +19,4 @@ unfolding at-character
 returns-3 c = search (all-tests, needs)
 
 pub at-character-spec : {M : Type 1} → statement M
-at-character-spec = tie.close (tie.spec shared-slice-read-b returns returns-2 returns-3)
+at-character-spec = tie.close (tie.spec (λ c. search needs) returns returns-2 returns-3)

@@ -6,12 +6,6 @@ use Rattle.state.proofs.Ladders.{holds, fails}
 use Rattle.state.proofs.offsets_sound.Statement.{statement}
 use Rattle.state.proofs.offsets_sound.Tie as tie
 
-at-character-requires : tie.Need-at-character-requires
-at-character-requires c κs = search needs
-
-at-character-requires-2 : tie.Need-at-character-requires-2
-at-character-requires-2 c κs = search needs
-
 returns : tie.Need-returns
 unfolding offsets-sound
 returns c = holds _ (c .before .before .at-character2 .ensures) (c .before .if2 .taken) ∙ holds _ (c .before .before .before .before .at-character .ensures) (c .before .before .before .if1 .taken)
@@ -25,4 +19,4 @@ unfolding offsets-sound
 returns-3 c = fails _ (c .before .at-character .ensures) (c .if1 .left)
 
 pub offsets-sound-spec : {M : Type 1} → statement M
-offsets-sound-spec = tie.close (tie.spec at-character-requires at-character-requires-2 returns returns-2 returns-3)
+offsets-sound-spec = tie.close (tie.spec (λ c κs. search needs) (λ c κs. search needs) returns returns-2 returns-3)

@@ -6,18 +6,6 @@ use Rattle.state.proofs.Ladders.{holds, fails}
 use Rattle.state.proofs.sound.Statement.{statement}
 use Rattle.state.proofs.sound.Tie as tie
 
-offsets-sound-requires : tie.Need-offsets-sound-requires
-offsets-sound-requires c κs = search needs
-
-counts-sound-requires : tie.Need-counts-sound-requires
-counts-sound-requires c κs = search needs
-
-depth-sound-requires : tie.Need-depth-sound-requires
-depth-sound-requires c κs = search needs
-
-comment-sound-requires : tie.Need-comment-sound-requires
-comment-sound-requires c κs = search needs
-
 returns : tie.Need-returns
 unfolding sound
 returns c = c .comment-sound .ensures ∙ holds _ (c .before .before .depth-sound .ensures) (c .before .if3 .taken) ∙ holds _ (c .before .before .before .before .counts-sound .ensures) (c .before .before .before .if2 .taken) ∙ holds _ (c .before .before .before .before .before .before .offsets-sound .ensures) (c .before .before .before .before .before .if1 .taken)
@@ -35,4 +23,8 @@ unfolding sound
 returns-4 c = fails _ (c .before .offsets-sound .ensures) (c .if1 .left)
 
 pub sound-spec : {M : Type 1} → statement M
-sound-spec = tie.close (tie.spec offsets-sound-requires counts-sound-requires depth-sound-requires comment-sound-requires returns returns-2 returns-3 returns-4)
+sound-spec =
+    tie.close
+    (tie.spec
+    (λ c κs. search needs) (λ c κs. search needs) (λ c κs. search needs) (λ c κs. search needs) returns returns-2 returns-3
+    returns-4)

@@ -15,9 +15,6 @@ backtick a b p q r = simp (ne-eqb a 115 p, ne-eqb a 35 q, ne-eqb a 37 r)
 returns : tie.Need-returns
 returns c = simp (eq-eqb _ _ (c .if1 .taken))
 
-between-requires : tie.Need-between-requires
-between-requires c κs = search needs
-
 returns-2 : tie.Need-returns-2
 returns-2 c = c .between .ensures ∙ simp (ne-eqb _ _ (c .before .before .if1 .left), eq-eqb _ _ (c .before .if2 .taken))
 
@@ -28,5 +25,4 @@ returns-4 : tie.Need-returns-4
 returns-4 c = backtick _ (c .before .before .before .args .b) (c .before .before .if1 .left) (c .before .if2 .left) (c .if3 .left)
 
 pub early-begins-spec : {M : Type 1} → statement M
-early-begins-spec =
-    tie.close (tie.spec returns between-requires returns-2 returns-3 returns-4)
+early-begins-spec = tie.close (tie.spec returns (λ c κs. search needs) returns-2 returns-3 returns-4)

@@ -6,15 +6,9 @@ use borrow.Author.Needs.{needs}
 use Rattle.table_early.proofs.early_kind.Statement.{statement}
 use Rattle.table_early.proofs.early_kind.Tie as tie
 
-mul-result : tie.Need-mul-result
-mul-result c = search needs
-
-array-read-result : tie.Need-array-read-result
-array-read-result c = search needs
-
 returns : tie.Need-returns
 unfolding early-literals kind kind-names number-from
 returns c = List·getD-map (λ (e : Entry). kind (e .kind)) early-literals (c .args .word) no-entry
 
 pub early-kind-spec : {M : Type 1} → statement M
-early-kind-spec = tie.close (tie.spec mul-result array-read-result returns)
+early-kind-spec = tie.close (tie.spec (λ c. search needs) (λ c. search needs) returns)

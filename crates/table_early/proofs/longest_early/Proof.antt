@@ -31,23 +31,11 @@ Inv-words text i best₀ next₀ best next = (i ≤ best .end) × (try-rows i 1 
 abbrev μ-words : tie.MeasureT-words
 μ-words text i best₀ next₀ best next = 15 - next
 
-nothing-requires : tie.Need-nothing-requires Inv-loop μ-loop Inv-words μ-words
-nothing-requires c κs = search needs
-
 words-holds : tie.Need-words-holds Inv-loop μ-loop Inv-words μ-words
 unfolding early-literals
 words-holds c =
     let a = c .before .before .args in
     (none-start (c .nothing .ensures), ap (try-rows (a .i) 1 (λ w. match-lit (a .text .now) w (a .i)) early) (c .nothing .ensures) ∙ sym (words-rows (a .i) 1 (λ w. match-lit (a .text .now) w (a .i)) 0 (words-of early-literals) (none-at (a .i))))
-
-add-next : tie.Need-add-next Inv-loop μ-loop Inv-words μ-words
-add-next c = search needs
-
-mul-n : tie.Need-mul-n Inv-loop μ-loop Inv-words μ-words
-mul-n c = search needs
-
-array-read-n : tie.Need-array-read-n Inv-loop μ-loop Inv-words μ-words
-array-read-n c = search needs
 
 loop-holds : tie.Need-loop-holds Inv-loop μ-loop Inv-words μ-words
 unfolding early-literals cps encode-all encode
@@ -55,12 +43,6 @@ loop-holds c = compare-start early _ (c .words-test .taken) (row-length early (c
 
 early-byte-requires : tie.Need-early-byte-requires Inv-loop μ-loop Inv-words μ-words
 early-byte-requires c κs = (c .before .before .words-test .taken, compare-index 20 early early-short _ (c .before .loop .inv) (c .loop-test .taken))
-
-byte-is-requires : tie.Need-byte-is-requires Inv-loop μ-loop Inv-words μ-words
-byte-is-requires c κs = search needs
-
-words-less : tie.Need-words-less Inv-loop μ-loop Inv-words μ-words
-words-less c = omega arith
 
 words-again : tie.Need-words-again Inv-loop μ-loop Inv-words μ-words
 unfolding early-literals
@@ -78,19 +60,10 @@ add-j c =
     let b = c .before .before .before .before in
     omega (arith, compare-index 20 early early-short _ (b .loop .inv) (c .before .before .before .loop-test .taken))
 
-loop-less : tie.Need-loop-less Inv-loop μ-loop Inv-words μ-words
-loop-less c = omega arith
-
 loop-again : tie.Need-loop-again Inv-loop μ-loop Inv-words μ-words
 loop-again c =
     let b = c .before .before .before .before in
     compare-on 20 early early-short _ (b .loop .inv) (c .before .before .before .loop-test .taken) (c .before .before .early-byte .ensures) (sym (c .before .byte-is .ensures) ∙ not-false _ (c .if1 .left))
-
-keep-requires : tie.Need-keep-requires Inv-loop μ-loop Inv-words μ-words
-keep-requires c κs = search needs
-
-words-less-2 : tie.Need-words-less-2 Inv-loop μ-loop Inv-words μ-words
-words-less-2 c = omega arith
 
 words-again-2 : tie.Need-words-again-2 Inv-loop μ-loop Inv-words μ-words
 unfolding early-literals
@@ -110,25 +83,6 @@ pub longest-early-spec : {M : Type 1} → statement M
 longest-early-spec =
     tie.close
     (tie.spec
-    Inv-loop
-    μ-loop
-    Inv-words
-    μ-words
-    nothing-requires
-    words-holds
-    add-next
-    mul-n
-    array-read-n
-    loop-holds
-    early-byte-requires
-    byte-is-requires
-    words-less
-    words-again
-    add-end
-    add-j
-    loop-less
-    loop-again
-    keep-requires
-    words-less-2
-    words-again-2
-    returns)
+    Inv-loop μ-loop Inv-words μ-words (λ c κs. search needs) words-holds (λ c. search needs) (λ c. search needs)
+    (λ c. search needs) loop-holds early-byte-requires (λ c κs. search needs) (λ c. omega arith) words-again add-end add-j
+    (λ c. omega arith) loop-again (λ c κs. search needs) (λ c. omega arith) words-again-2 returns)

@@ -12,18 +12,9 @@ use borrow.Author.Needs.{needs}
 use Rattle.table_entries.proofs.kind_at.Statement.{statement}
 use Rattle.table_entries.proofs.kind_at.Tie as tie
 
-cast-result : tie.Need-cast-result
-cast-result c = search needs
-
-add-result : tie.Need-add-result
-add-result c = search needs
-
 returns : tie.Need-returns
 unfolding entries keywords constructors uoperators op-tokens mixfix-rules kind kind-names number-from
 returns c = each-from (λ (k : ℕ). k + 1) (λ (k : ℕ). kind (entry entries k .kind)) 0 21 refl (c .before .args .k) (omega arith) (omega arith)
-
-cast-result-2 : tie.Need-cast-result-2
-cast-result-2 c = search needs
 
 returns-2 : tie.Need-returns-2
 unfolding entries keywords constructors uoperators op-tokens mixfix-rules kind kind-names number-from
@@ -33,21 +24,9 @@ returns-3 : tie.Need-returns-3
 unfolding entries keywords constructors uoperators op-tokens mixfix-rules kind kind-names number-from
 returns-3 c = each-from (λ (k : ℕ). 65) (λ (k : ℕ). kind (entry entries k .kind)) 66 23 refl (c .before .before .before .args .k) (omega arith) (omega arith)
 
-array-read-kind-of-byte : tie.Need-array-read-kind-of-byte
-array-read-kind-of-byte c = search needs
-
-kind-of-byte-requires : tie.Need-kind-of-byte-requires
-kind-of-byte-requires c κs = search needs
-
 returns-4 : tie.Need-returns-4
 unfolding entries keywords constructors uoperators op-tokens mixfix-rules kind kind-names number-from
 returns-4 c = c .kind-of-byte .ensures ∙ each-from (λ (k : ℕ). getD (map (λ (e : Entry). kind (e .kind)) uoperators) (k - 89) 0) (λ (k : ℕ). kind (entry entries k .kind)) 89 30 refl (c .before .before .before .before .before .args .k) (omega arith) (omega arith)
-
-cast-result-3 : tie.Need-cast-result-3
-cast-result-3 c = search needs
-
-sub-result : tie.Need-sub-result
-sub-result c = search needs
 
 returns-5 : tie.Need-returns-5
 unfolding entries keywords constructors uoperators op-tokens mixfix-rules kind kind-names number-from
@@ -65,17 +44,5 @@ pub kind-at-spec : {M : Type 1} → statement M
 kind-at-spec =
     tie.close
     (tie.spec
-    cast-result
-    add-result
-    returns
-    cast-result-2
-    returns-2
-    returns-3
-    array-read-kind-of-byte
-    kind-of-byte-requires
-    returns-4
-    cast-result-3
-    sub-result
-    returns-5
-    returns-6
-    returns-7)
+    (λ c. search needs) (λ c. search needs) returns (λ c. search needs) returns-2 returns-3 (λ c. search needs)
+    (λ c κs. search needs) returns-4 (λ c. search needs) (λ c. search needs) returns-5 returns-6 returns-7)

@@ -11,9 +11,6 @@ use borrow.Author.Needs.{needs}
 use Rattle.table_entries.proofs.text_byte.Statement.{statement}
 use Rattle.table_entries.proofs.text_byte.Tie as tie
 
-text-start-requires : tie.Need-text-start-requires
-text-start-requires c κs = search needs
-
 add-result : tie.Need-add-result
 unfolding texts entries keywords constructors uoperators op-tokens mixfix-rules cps encode-all encode
 add-result c =
@@ -34,5 +31,4 @@ returns c =
     rw (c .text-start .ensures) (text-at texts [] (g .k) (g .j) (c .before .pre .1))
 
 pub text-byte-spec : {M : Type 1} → statement M
-text-byte-spec =
-    tie.close (tie.spec text-start-requires add-result array-read-result returns)
+text-byte-spec = tie.close (tie.spec (λ c κs. search needs) add-result array-read-result returns)

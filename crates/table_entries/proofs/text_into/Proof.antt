@@ -29,12 +29,6 @@ slice-write-out c =
     let i = c .before .before .loop .inv in
     omega (arith, copied-length i, i .room, c .before .before .before .text-length .ensures)
 
-add-j : tie.Need-add-j Inv-loop μ-loop
-add-j c = omega arith
-
-loop-less : tie.Need-loop-less Inv-loop μ-loop
-loop-less c = omega arith
-
 loop-again : tie.Need-loop-again Inv-loop μ-loop
 loop-again c =
     let k = c .before .before .before .before .before .args .k in
@@ -53,14 +47,5 @@ pub text-into-spec : {M : Type 1} → statement M
 text-into-spec =
     tie.close
     (tie.spec
-    Inv-loop
-    μ-loop
-    text-length-requires
-    loop-holds
-    text-byte-requires
-    slice-write-out
-    add-j
-    loop-less
-    loop-again
-    same-length
-    returns)
+    Inv-loop μ-loop text-length-requires loop-holds text-byte-requires slice-write-out (λ c. omega arith) (λ c. omega arith)
+    loop-again same-length returns)

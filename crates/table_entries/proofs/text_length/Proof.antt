@@ -20,12 +20,6 @@ returns-2 : tie.Need-returns-2
 unfolding texts entries keywords constructors uoperators op-tokens mixfix-rules cps encode-all encode
 returns-2 c = each-from (λ (k : ℕ). 2) (λ (k : ℕ). length (getD texts k [])) 65 21 refl (c .before .before .args .k) (omega arith) (omega arith)
 
-array-read-wide : tie.Need-array-read-wide
-array-read-wide c = search needs
-
-wide-requires : tie.Need-wide-requires
-wide-requires c κs = search needs
-
 returns-3 : tie.Need-returns-3
 unfolding texts entries keywords constructors uoperators op-tokens mixfix-rules cps encode-all encode
 returns-3 c = c .wide .ensures ∙ each-from (λ (k : ℕ). getD (map length (take 34 (drop 86 texts))) (k - 86) 0) (λ (k : ℕ). length (getD texts k [])) 86 34 refl (c .before .before .before .before .args .k) (omega arith) (omega arith)
@@ -40,5 +34,4 @@ returns-5 c = each-from (λ (k : ℕ). 1) (λ (k : ℕ). length (getD texts k []
 
 pub text-length-spec : {M : Type 1} → statement M
 text-length-spec =
-    tie.close
-    (tie.spec returns returns-2 array-read-wide wide-requires returns-3 returns-4 returns-5)
+    tie.close (tie.spec returns returns-2 (λ c. search needs) (λ c κs. search needs) returns-3 returns-4 returns-5)

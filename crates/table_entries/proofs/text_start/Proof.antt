@@ -15,21 +15,9 @@ returns : tie.Need-returns
 unfolding texts entries keywords constructors uoperators op-tokens mixfix-rules cps encode-all encode
 returns c = each-from (λ (k : ℕ). 0) (λ (k : ℕ). getD (starts 0 texts) k 0) 0 65 refl (c .before .args .k) (omega arith) (omega arith)
 
-mul-result : tie.Need-mul-result
-mul-result c = search needs
-
-sub-result : tie.Need-sub-result
-sub-result c = search needs
-
 returns-2 : tie.Need-returns-2
 unfolding texts entries keywords constructors uoperators op-tokens mixfix-rules cps encode-all encode
 returns-2 c = each-from (λ (k : ℕ). 2 * k - 130) (λ (k : ℕ). getD (starts 0 texts) k 0) 65 21 refl (c .before .before .args .k) (omega arith) (omega arith)
-
-array-read-wide : tie.Need-array-read-wide
-array-read-wide c = search needs
-
-wide-requires : tie.Need-wide-requires
-wide-requires c κs = search needs
 
 returns-3 : tie.Need-returns-3
 unfolding texts entries keywords constructors uoperators op-tokens mixfix-rules cps encode-all encode
@@ -43,11 +31,4 @@ pub text-start-spec : {M : Type 1} → statement M
 text-start-spec =
     tie.close
     (tie.spec
-    returns
-    mul-result
-    sub-result
-    returns-2
-    array-read-wide
-    wide-requires
-    returns-3
-    returns-4)
+    returns (λ c. search needs) (λ c. search needs) returns-2 (λ c. search needs) (λ c κs. search needs) returns-3 returns-4)

@@ -12,17 +12,8 @@ use Rattle.table_keywords.proofs.key.Tie as tie
 returns : tie.Need-returns
 returns c = key-empty _ (c .if1 .taken)
 
-shared-slice-read-first : tie.Need-shared-slice-read-first
-shared-slice-read-first c = search needs
-
 cast-first : tie.Need-cast-first
 cast-first c = omega (arith, c .shared-slice-known .given 0)
-
-sub-last : tie.Need-sub-last
-sub-last c = search needs
-
-shared-slice-read-last : tie.Need-shared-slice-read-last
-shared-slice-read-last c = search needs
 
 cast-last : tie.Need-cast-last
 cast-last c = omega (arith, c .shared-slice-known2 .given (length (c .before .before .before .args .id .now) - 1))
@@ -41,12 +32,4 @@ pub key-spec : {M : Type 1} → statement M
 key-spec =
     tie.close
     (tie.spec
-    returns
-    shared-slice-read-first
-    cast-first
-    sub-last
-    shared-slice-read-last
-    cast-last
-    add-result
-    add-result-2
-    returns-2)
+    returns (λ c. search needs) cast-first (λ c. search needs) (λ c. search needs) cast-last add-result add-result-2 returns-2)

@@ -14,14 +14,8 @@ use borrow.Author.Needs.{needs}
 use Rattle.table_keywords.proofs.keyword.Statement.{statement}
 use Rattle.table_keywords.proofs.keyword.Tie as tie
 
-may-be-keyword-requires : tie.Need-may-be-keyword-requires
-may-be-keyword-requires c κs = search needs
-
 returns : tie.Need-returns
 returns c = sym (no-keyword _ (sym (c .before .may-be-keyword .ensures) ∙ not-true _ (c .if1 .taken)))
-
-key-requires : tie.Need-key-requires
-key-requires c κs = search needs
 
 array-read-follow : tie.Need-array-read-follow
 array-read-follow c =
@@ -48,10 +42,4 @@ pub keyword-spec : {M : Type 1} → statement M
 keyword-spec =
     tie.close
     (tie.spec
-    may-be-keyword-requires
-    returns
-    key-requires
-    array-read-follow
-    cast-follow
-    follow-requires
-    returns-2)
+    (λ c κs. search needs) returns (λ c κs. search needs) array-read-follow cast-follow follow-requires returns-2)

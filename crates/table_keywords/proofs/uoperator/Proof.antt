@@ -11,9 +11,6 @@ use borrow.Author.Needs.{needs}
 use Rattle.table_keywords.proofs.uoperator.Statement.{statement}
 use Rattle.table_keywords.proofs.uoperator.Tie as tie
 
-key-requires : tie.Need-key-requires
-key-requires c κs = search needs
-
 array-read-follow : tie.Need-array-read-follow
 array-read-follow c =
     let h : c .key .result < 64 = rw (c .key .ensures) (key-small _) in
@@ -36,5 +33,4 @@ returns c =
     c .follow .ensures ∙ seek-table id 89 119 _ (rw (c .before .key .ensures) (first-at 89 id)) (omega arith) (omega arith)
 
 pub uoperator-spec : {M : Type 1} → statement M
-uoperator-spec =
-    tie.close (tie.spec key-requires array-read-follow cast-follow follow-requires returns)
+uoperator-spec = tie.close (tie.spec (λ c κs. search needs) array-read-follow cast-follow follow-requires returns)

@@ -6,18 +6,9 @@ use borrow.Author.Needs.{needs}
 use Rattle.table_kw_op.proofs.kw_op_byte.Statement.{statement}
 use Rattle.table_kw_op.proofs.kw_op_byte.Tie as tie
 
-mul-result : tie.Need-mul-result
-mul-result c = search needs
-
-index-1-result : tie.Need-index-1-result
-index-1-result c = search needs
-
-index-2-result : tie.Need-index-2-result
-index-2-result c = search needs
-
 returns : tie.Need-returns
 unfolding kw-op-rules cps encode-all encode
 returns c = refl
 
 pub kw-op-byte-spec : {M : Type 1} → statement M
-kw-op-byte-spec = tie.close (tie.spec mul-result index-1-result index-2-result returns)
+kw-op-byte-spec = tie.close (tie.spec (λ c. search needs) (λ c. search needs) (λ c. search needs) returns)

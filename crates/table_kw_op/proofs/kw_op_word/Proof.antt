@@ -29,24 +29,12 @@ Inv-words text i k₀ k = k + first-fit text i (drop k kw-ops) ≡ first-fit tex
 abbrev μ-words : tie.MeasureT-words
 μ-words text i k₀ k = 9 - k
 
-words-holds : tie.Need-words-holds Inv-loop μ-loop Inv-words μ-words
-words-holds c = omega arith
-
-mul-n : tie.Need-mul-n Inv-loop μ-loop Inv-words μ-words
-mul-n c = search needs
-
-array-read-n : tie.Need-array-read-n Inv-loop μ-loop Inv-words μ-words
-array-read-n c = search needs
-
 loop-holds : tie.Need-loop-holds Inv-loop μ-loop Inv-words μ-words
 unfolding kw-op-rules cps encode-all encode
 loop-holds c = (refl, compare-start kw-ops _ (c .words-test .taken) (row-length kw-ops (c .before .words .k)))
 
 kw-op-byte-requires : tie.Need-kw-op-byte-requires Inv-loop μ-loop Inv-words μ-words
 kw-op-byte-requires c κs = (omega (arith, c .before .loop .inv .1 .row, kw-count), compare-index 6 kw-ops kw-short _ (c .before .loop .inv .1) (c .loop-test .taken))
-
-byte-is-requires : tie.Need-byte-is-requires Inv-loop μ-loop Inv-words μ-words
-byte-is-requires c κs = search needs
 
 add-k : tie.Need-add-k Inv-loop μ-loop Inv-words μ-words
 add-k c =
@@ -73,9 +61,6 @@ add-j c =
     let b = c .before .before .before .before in
     omega (arith, compare-index 6 kw-ops kw-short _ (b .loop .inv .1) (c .before .before .before .loop-test .taken))
 
-loop-less : tie.Need-loop-less Inv-loop μ-loop Inv-words μ-words
-loop-less c = omega arith
-
 loop-again : tie.Need-loop-again Inv-loop μ-loop Inv-words μ-words
 loop-again c =
     let b = c .before .before .before .before in
@@ -93,22 +78,5 @@ pub kw-op-word-spec : {M : Type 1} → statement M
 kw-op-word-spec =
     tie.close
     (tie.spec
-    Inv-loop
-    μ-loop
-    Inv-words
-    μ-words
-    words-holds
-    mul-n
-    array-read-n
-    loop-holds
-    kw-op-byte-requires
-    byte-is-requires
-    add-k
-    words-less
-    words-again
-    add-end
-    add-j
-    loop-less
-    loop-again
-    returns
-    returns-2)
+    Inv-loop μ-loop Inv-words μ-words (λ c. omega arith) (λ c. search needs) (λ c. search needs) loop-holds kw-op-byte-requires
+    (λ c κs. search needs) add-k words-less words-again add-end add-j (λ c. omega arith) loop-again returns returns-2)

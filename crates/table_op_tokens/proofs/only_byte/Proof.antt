@@ -1,21 +1,12 @@
 -- `only_byte` tries one row.
+use mathlib.Core.Path.{refl}
 use Rattle.table_words.specs.Rows.{try-rows}
-use borrow.Author.Needs.{needs}
 use Rattle.table_op_tokens.proofs.only_byte.Statement.{statement}
 use Rattle.table_op_tokens.proofs.only_byte.Tie as tie
 
-nothing-requires : tie.Need-nothing-requires
-nothing-requires c κs = search needs
-
-slice-aggregate-try-word : tie.Need-slice-aggregate-try-word
-slice-aggregate-try-word c = search needs
-
-try-word-requires : tie.Need-try-word-requires
-try-word-requires c κs = search needs
-
-returns : tie.Need-returns
-unfolding try-rows
-returns c = rw (c .try-word .ensures, c .before .before .nothing .ensures)
-
 pub only-byte-spec : {M : Type 1} → statement M
-only-byte-spec = tie.close (tie.spec nothing-requires slice-aggregate-try-word try-word-requires returns)
+unfolding try-rows
+only-byte-spec =
+    tie.close
+    (tie.spec (λ c κs. tt) (λ c. refl) (λ c κs. tt)
+    (λ c. rw (c .try-word .ensures, c .before .before .nothing .ensures)))

@@ -5,9 +5,6 @@ use Rattle.trim_lines.specs.Trimming.{one-if}
 use Rattle.trim_lines.proofs.counts.Statement.{statement}
 use Rattle.trim_lines.proofs.counts.Tie as tie
 
-keeps-requires : tie.Need-keeps-requires
-keeps-requires c κs = search needs
-
 returns : tie.Need-returns
 returns c = ap one-if (sym (c .if1 .taken) ∙ c .before .keeps .ensures)
 
@@ -15,4 +12,4 @@ returns-2 : tie.Need-returns-2
 returns-2 c = ap one-if (sym (c .if1 .left) ∙ c .before .keeps .ensures)
 
 pub counts-spec : {M : Type 1} → statement M
-counts-spec = tie.close (tie.spec keeps-requires returns returns-2)
+counts-spec = tie.close (tie.spec (λ c κs. search needs) returns returns-2)

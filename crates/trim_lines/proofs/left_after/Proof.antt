@@ -8,11 +8,8 @@ use Rattle.trim_lines.proofs.left_after.Tie as tie
 returns : tie.Need-returns
 returns c = sym (left-newline _ _ _ (c .if1 .taken))
 
-span-requires : tie.Need-span-requires
-span-requires c κs = search needs
-
 returns-2 : tie.Need-returns-2
 returns-2 c = c .span .ensures ∙ sym (left-other _ _ _ (c .before .if1 .left))
 
 pub left-after-spec : {M : Type 1} → statement M
-left-after-spec = tie.close (tie.spec returns span-requires returns-2)
+left-after-spec = tie.close (tie.spec returns (λ c κs. search needs) returns-2)

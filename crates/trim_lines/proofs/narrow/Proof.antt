@@ -12,16 +12,10 @@ returns c = sym (narrow-newline _ _ (eq-eqb _ _ (c .if1 .taken)))
 returns-2 : tie.Need-returns-2
 returns-2 c = sym (narrow-decided _ _ (ne-eqb _ _ (c .before .before .if1 .left)) (c .if2 .taken))
 
-add-t4 : tie.Need-add-t4
-add-t4 c = search needs
-
 returns-3 : tie.Need-returns-3
 returns-3 c =
     let d = c .before .before in
     sym (narrow-space _ _ (ne-eqb _ _ (d .before .before .if1 .left)) (d .if2 .left) (eq-eqb _ _ (c .before .if3 .taken)))
-
-add-t5 : tie.Need-add-t5
-add-t5 c = search needs
 
 returns-4 : tie.Need-returns-4
 returns-4 c =
@@ -29,4 +23,4 @@ returns-4 c =
     sym (narrow-other _ _ (ne-eqb _ _ (d .before .before .if1 .left)) (d .if2 .left) (ne-eqb _ _ (c .before .if3 .left)))
 
 pub narrow-spec : {M : Type 1} → statement M
-narrow-spec = tie.close (tie.spec returns returns-2 add-t4 returns-3 add-t5 returns-4)
+narrow-spec = tie.close (tie.spec returns returns-2 (λ c. search needs) returns-3 (λ c. search needs) returns-4)

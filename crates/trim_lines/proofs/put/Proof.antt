@@ -6,17 +6,11 @@ use borrow.Author.Needs.{needs}
 use Rattle.trim_lines.proofs.put.Statement.{statement}
 use Rattle.trim_lines.proofs.put.Tie as tie
 
-keeps-requires : tie.Need-keeps-requires
-keeps-requires c κs = search needs
-
 slice-write-out : tie.Need-slice-write-out
 slice-write-out c = c .before .before .before .pre (sym (c .before .keeps .ensures) ∙ c .if1 .taken)
 
 add-result : tie.Need-add-result
 add-result c = let h = c .before .before .before .pre (sym (c .before .keeps .ensures) ∙ c .if1 .taken) in omega (arith, h)
-
-same-length : tie.Need-same-length
-same-length c = search needs
 
 returns : tie.Need-returns
 returns c = let e = sym (c .before .keeps .ensures) ∙ c .if1 .taken in record { bytes = rw e; next = rw e }
@@ -25,5 +19,4 @@ returns-2 : tie.Need-returns-2
 returns-2 c = let e = sym (c .before .keeps .ensures) ∙ c .if1 .left in record { bytes = rw e; next = rw e (sym (add-zero _)) }
 
 pub put-spec : {M : Type 1} → statement M
-put-spec =
-    tie.close (tie.spec keeps-requires slice-write-out add-result same-length returns returns-2)
+put-spec = tie.close (tie.spec (λ c κs. search needs) slice-write-out add-result (λ c. search needs) returns returns-2)

@@ -20,25 +20,13 @@ loop-holds c = record { same = sym (width-is _ _); few = omega arith }
 returns : tie.Need-returns Inv-loop μ-loop
 returns c = sym (width-none _ _ (c .if1 .taken)) ∙ c .before .before .before .loop .inv .same
 
-shared-slice-read-narrow : tie.Need-shared-slice-read-narrow Inv-loop μ-loop
-shared-slice-read-narrow c = omega arith
-
 narrow-requires : tie.Need-narrow-requires Inv-loop μ-loop
 narrow-requires c κs = omega (arith, c .before .before .before .before .loop .inv .few)
-
-add-at : tie.Need-add-at Inv-loop μ-loop
-add-at c = omega arith
-
-loop-less : tie.Need-loop-less Inv-loop μ-loop
-loop-less c = omega arith
 
 loop-again : tie.Need-loop-again Inv-loop μ-loop
 loop-again c =
     let d = c .before .before .before .before .before in
     going-on (d .before .before .pre) (omega arith) (d .loop .inv) (c .narrow .ensures)
-
-narrowest-requires : tie.Need-narrowest-requires Inv-loop μ-loop
-narrowest-requires c κs = search needs
 
 returns-2 : tie.Need-returns-2 Inv-loop μ-loop
 returns-2 c =
@@ -49,14 +37,5 @@ pub trim-width-spec : {M : Type 1} → statement M
 trim-width-spec =
     tie.close
     (tie.spec
-    Inv-loop
-    μ-loop
-    loop-holds
-    returns
-    shared-slice-read-narrow
-    narrow-requires
-    add-at
-    loop-less
-    loop-again
-    narrowest-requires
-    returns-2)
+    Inv-loop μ-loop loop-holds returns (λ c. omega arith) narrow-requires (λ c. omega arith) (λ c. omega arith) loop-again
+    (λ c κs. search needs) returns-2)

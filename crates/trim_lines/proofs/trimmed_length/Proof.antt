@@ -15,9 +15,6 @@ Inv-loop text from to width length₀ left₀ at₀ length left at = Counting te
 abbrev μ-loop : tie.MeasureT-loop
 μ-loop text from to width length₀ left₀ at₀ length left at = to - at
 
-span-requires : tie.Need-span-requires Inv-loop μ-loop
-span-requires c κs = search needs
-
 add-result : tie.Need-add-result Inv-loop μ-loop
 add-result c = omega (arith, c .span .ensures, c .before .before .before .pre .within, c .before .before .before .pre .short)
 
@@ -32,9 +29,6 @@ loop-holds c = counting-starts (c .before .before .pre)
 shared-slice-read-counts : tie.Need-shared-slice-read-counts Inv-loop μ-loop
 shared-slice-read-counts c = omega (arith, c .before .before .before .before .before .pre .within)
 
-counts-requires : tie.Need-counts-requires Inv-loop μ-loop
-counts-requires c κs = search needs
-
 add-length : tie.Need-add-length Inv-loop μ-loop
 add-length c =
     let d = c .before .before .before in
@@ -44,23 +38,11 @@ add-length c =
 shared-slice-read-left-after : tie.Need-shared-slice-read-left-after Inv-loop μ-loop
 shared-slice-read-left-after c = omega (arith, c .before .before .before .before .before .before .before .pre .within)
 
-left-after-requires : tie.Need-left-after-requires Inv-loop μ-loop
-left-after-requires c κs = search needs
-
-add-at : tie.Need-add-at Inv-loop μ-loop
-add-at c = omega arith
-
-loop-less : tie.Need-loop-less Inv-loop μ-loop
-loop-less c = omega arith
-
 loop-again : tie.Need-loop-again Inv-loop μ-loop
 loop-again c =
     let d = c .before .before .before .before .before in
     counting-on (d .before .before .before .pre) (d .loop .inv) (c .before .before .before .before .loop-test .taken)
     (c .before .before .counts .ensures) (c .left-after .ensures)
-
-span-requires-2 : tie.Need-span-requires-2 Inv-loop μ-loop
-span-requires-2 c κs = search needs
 
 add-result-2 : tie.Need-add-result-2 Inv-loop μ-loop
 add-result-2 c =
@@ -76,20 +58,6 @@ pub trimmed-length-spec : {M : Type 1} → statement M
 trimmed-length-spec =
     tie.close
     (tie.spec
-    Inv-loop
-    μ-loop
-    span-requires
-    add-result
-    returns
-    loop-holds
-    shared-slice-read-counts
-    counts-requires
-    add-length
-    shared-slice-read-left-after
-    left-after-requires
-    add-at
-    loop-less
-    loop-again
-    span-requires-2
-    add-result-2
-    returns-2)
+    Inv-loop μ-loop (λ c κs. search needs) add-result returns loop-holds shared-slice-read-counts (λ c κs. search needs)
+    add-length shared-slice-read-left-after (λ c κs. search needs) (λ c. omega arith) (λ c. omega arith) loop-again
+    (λ c κs. search needs) add-result-2 returns-2)

@@ -31,15 +31,6 @@ put-requires c κs =
     let h = c .before .before in
     writing-fits (writing-at _ _ _ (h .before .before .before .before .pre .within) (h .before .loop .inv) (h .loop-test .taken))
 
-left-after-requires : tie.Need-left-after-requires Inv-loop μ-loop
-left-after-requires c κs = search needs
-
-add-at : tie.Need-add-at Inv-loop μ-loop
-add-at c = omega arith
-
-loop-less : tie.Need-loop-less Inv-loop μ-loop
-loop-less c = omega arith
-
 loop-again : tie.Need-loop-again Inv-loop μ-loop
 loop-again c =
     let g = c .before .before .before in
@@ -51,9 +42,6 @@ put-requires-2 : tie.Need-put-requires-2 Inv-loop μ-loop
 put-requires-2 c κs =
     let h = c .before in
     writing-fits (writing-mark _ _ _ (h .before .before .before .before .pre .within) (h .before .loop .inv) (h .loop-test .left))
-
-left-after-requires-2 : tie.Need-left-after-requires-2 Inv-loop μ-loop
-left-after-requires-2 c κs = search needs
 
 put-requires-3 : tie.Need-put-requires-3 Inv-loop μ-loop
 put-requires-3 c κs =
@@ -82,17 +70,5 @@ pub write-trimmed-spec : {M : Type 1} → statement M
 write-trimmed-spec =
     tie.close
     (tie.spec
-    Inv-loop
-    μ-loop
-    loop-holds
-    shared-slice-read-b
-    put-requires
-    left-after-requires
-    add-at
-    loop-less
-    loop-again
-    put-requires-2
-    left-after-requires-2
-    put-requires-3
-    same-length
-    returns)
+    Inv-loop μ-loop loop-holds shared-slice-read-b put-requires (λ c κs. search needs) (λ c. omega arith) (λ c. omega arith)
+    loop-again put-requires-2 (λ c κs. search needs) put-requires-3 same-length returns)

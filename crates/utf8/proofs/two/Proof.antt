@@ -5,12 +5,6 @@ use Rattle.lemmas.proofs.Cases.{tests}
 use Rattle.utf8.proofs.two.Statement.{statement}
 use Rattle.utf8.proofs.two.Tie as tie
 
-mul-t4 : tie.Need-mul-t4
-mul-t4 c = search needs
-
-add-t5 : tie.Need-add-t5
-add-t5 c = search needs
-
 returns : tie.Need-returns
 unfolding two
 returns c = search (tests, needs)
@@ -20,4 +14,4 @@ unfolding two
 returns-2 c = search (tests, needs)
 
 pub two-spec : {M : Type 1} → statement M
-two-spec = tie.close (tie.spec mul-t4 add-t5 returns returns-2)
+two-spec = tie.close (tie.spec (λ c. search needs) (λ c. search needs) returns returns-2)

@@ -5,9 +5,6 @@ use Rattle.definition.specs.Chars.{in-table}
 use Rattle.chars.proofs.ascii.in_table.Statement.{statement}
 use Rattle.chars.proofs.ascii.in_table.Tie as tie
 
-element-copy-out-result : tie.Need-element-copy-out-result
-element-copy-out-result c = search needs
-
 returns : tie.Need-returns
 unfolding in-table
 returns c = rw (in-table, lt-ltb _ _ (c .before .if1 .taken))
@@ -17,4 +14,4 @@ unfolding in-table
 returns-2 c = rw (in-table, le-ltb _ _ (c .if1 .left))
 
 pub in-table-spec : {M : Type 1} → statement M
-in-table-spec = tie.close (tie.spec element-copy-out-result returns returns-2)
+in-table-spec = tie.close (tie.spec (λ c. search needs) returns returns-2)

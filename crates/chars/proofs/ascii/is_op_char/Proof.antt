@@ -4,12 +4,9 @@ use Rattle.definition.specs.Chars.{is-op-char}
 use Rattle.chars.proofs.ascii.is_op_char.Statement.{statement}
 use Rattle.chars.proofs.ascii.is_op_char.Tie as tie
 
-in-table-requires : tie.Need-in-table-requires
-in-table-requires c κs = search needs
-
 returns : tie.Need-returns
 unfolding is-op-char
 returns c = rw (c .before .pre) at (c .in-table .ensures)
 
 pub is-op-char-spec : {M : Type 1} → statement M
-is-op-char-spec = tie.close (tie.spec in-table-requires returns)
+is-op-char-spec = tie.close (tie.spec (λ c κs. search needs) returns)

@@ -4,12 +4,9 @@ use Rattle.definition.specs.Chars.{is-symbolchar}
 use Rattle.chars.proofs.ascii.is_symbolchar.Statement.{statement}
 use Rattle.chars.proofs.ascii.is_symbolchar.Tie as tie
 
-in-table-requires : tie.Need-in-table-requires
-in-table-requires c κs = search needs
-
 returns : tie.Need-returns
 unfolding is-symbolchar
 returns c = rw (c .before .pre) at (c .in-table .ensures)
 
 pub is-symbolchar-spec : {M : Type 1} → statement M
-is-symbolchar-spec = tie.close (tie.spec in-table-requires returns)
+is-symbolchar-spec = tie.close (tie.spec (λ c κs. search needs) returns)

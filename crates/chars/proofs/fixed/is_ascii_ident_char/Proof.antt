@@ -6,24 +6,15 @@ use Rattle.chars.specs.Parts.{ascii-ident-char}
 use Rattle.chars.proofs.fixed.is_ascii_ident_char.Statement.{statement}
 use Rattle.chars.proofs.fixed.is_ascii_ident_char.Tie as tie
 
-between-requires : tie.Need-between-requires
-between-requires c κs = search needs
-
 returns : tie.Need-returns
 unfolding ascii-ident-char
 returns c = rw (ascii-ident-char, sym (c .before .between .ensures) ∙ c .if1 .taken)
-
-between-requires-2 : tie.Need-between-requires-2
-between-requires-2 c κs = search needs
 
 returns-2 : tie.Need-returns-2
 unfolding ascii-ident-char
 returns-2 c =
     let a = c .before .before in
     rw (ascii-ident-char, sym (a .before .between .ensures) ∙ a .if1 .left, sym (c .before .between2 .ensures) ∙ c .if2 .taken)
-
-is-digit-requires : tie.Need-is-digit-requires
-is-digit-requires c κs = search needs
 
 returns-3 : tie.Need-returns-3
 unfolding ascii-ident-char
@@ -69,11 +60,4 @@ pub is-ascii-ident-char-spec : {M : Type 1} → statement M
 is-ascii-ident-char-spec =
     tie.close
     (tie.spec
-    between-requires
-    returns
-    between-requires-2
-    returns-2
-    is-digit-requires
-    returns-3
-    returns-4
-    returns-5)
+    (λ c κs. search needs) returns (λ c κs. search needs) returns-2 (λ c κs. search needs) returns-3 returns-4 returns-5)

@@ -5,24 +5,15 @@ use Rattle.definition.specs.Chars.{is-hex}
 use Rattle.chars.proofs.fixed.is_hex.Statement.{statement}
 use Rattle.chars.proofs.fixed.is_hex.Tie as tie
 
-is-digit-requires : tie.Need-is-digit-requires
-is-digit-requires c κs = search needs
-
 returns : tie.Need-returns
 unfolding is-hex
 returns c = rw (is-hex, sym (c .before .is-digit .ensures) ∙ c .if1 .taken)
-
-between-requires : tie.Need-between-requires
-between-requires c κs = search needs
 
 returns-2 : tie.Need-returns-2
 unfolding is-hex
 returns-2 c =
     let a = c .before .before in
     rw (is-hex, sym (a .before .is-digit .ensures) ∙ a .if1 .left, sym (c .before .between .ensures) ∙ c .if2 .taken)
-
-between-requires-2 : tie.Need-between-requires-2
-between-requires-2 c κs = search needs
 
 returns-3 : tie.Need-returns-3
 unfolding is-hex
@@ -34,4 +25,5 @@ returns-3 c =
 pub is-hex-spec : {M : Type 1} → statement M
 is-hex-spec =
     tie.close
-    (tie.spec is-digit-requires returns between-requires returns-2 between-requires-2 returns-3)
+    (tie.spec
+    (λ c κs. search needs) returns (λ c κs. search needs) returns-2 (λ c κs. search needs) returns-3)

@@ -5,15 +5,6 @@ use borrow.Author.Needs.{needs}
 use Rattle.choice.proofs.attempts.found.Statement.{statement}
 use Rattle.choice.proofs.attempts.found.Tie as tie
 
-enum-known-m : tie.Need-enum-known-m
-enum-known-m c = search needs
-
-enum-told : tie.Need-enum-told
-enum-told c = search needs
-
-nothing-requires : tie.Need-nothing-requires
-nothing-requires c κs = search needs
-
 returns : tie.Need-returns
 returns c = c .nothing .ensures ∙ ap (found _ _ 0) (sym (c .before .enum-told .given .1))
 
@@ -21,4 +12,4 @@ returns-2 : tie.Need-returns-2
 returns-2 c = ap (found _ _ 0) (sym (c .before .m .given .1))
 
 pub found-spec : {M : Type 1} → statement M
-found-spec = tie.close (tie.spec enum-known-m enum-told nothing-requires returns returns-2)
+found-spec = tie.close (tie.spec (λ c. search needs) (λ c. search needs) (λ c κs. search needs) returns returns-2)

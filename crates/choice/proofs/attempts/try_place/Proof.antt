@@ -5,14 +5,8 @@ use borrow.Author.Needs.{needs}
 use Rattle.choice.proofs.attempts.try_place.Statement.{statement}
 use Rattle.choice.proofs.attempts.try_place.Tie as tie
 
-found-requires : tie.Need-found-requires
-found-requires c κs = search needs
-
-keep-requires : tie.Need-keep-requires
-keep-requires c κs = search needs
-
 returns : tie.Need-returns
 returns c = c .keep .ensures ∙ ap (keep _) (c .before .found .ensures)
 
 pub try-place-spec : {M : Type 1} → statement M
-try-place-spec = tie.close (tie.spec found-requires keep-requires returns)
+try-place-spec = tie.close (tie.spec (λ c κs. search needs) (λ c κs. search needs) returns)

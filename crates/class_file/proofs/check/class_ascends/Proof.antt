@@ -18,12 +18,6 @@ Inv-loop file k start count least₀ i₀ least i = (i ≤ count) × (ascending 
 abbrev μ-loop : tie.MeasureT-loop
 μ-loop file k start count least₀ i₀ least i = count - i
 
-class-start-requires : tie.Need-class-start-requires Inv-loop μ-loop
-class-start-requires c κs = search needs
-
-class-count-requires : tie.Need-class-count-requires Inv-loop μ-loop
-class-count-requires c κs = search needs
-
 loop-holds : tie.Need-loop-holds Inv-loop μ-loop
 loop-holds c = (omega arith, refl)
 
@@ -81,15 +75,6 @@ returns-2 c = fails (c .before .before) (λ p q l. omega arith)
 returns-3 : tie.Need-returns-3 Inv-loop μ-loop
 returns-3 c = fails (c .before .before .before) (λ p q l. omega arith)
 
-add-least : tie.Need-add-least Inv-loop μ-loop
-add-least c = omega arith
-
-add-i : tie.Need-add-i Inv-loop μ-loop
-add-i c = omega arith
-
-loop-less : tie.Need-loop-less Inv-loop μ-loop
-loop-less c = omega arith
-
 loop-again : tie.Need-loop-again Inv-loop μ-loop
 loop-again c =
     let t = c .before .before .before in
@@ -106,23 +91,6 @@ pub class-ascends-spec : {M : Type 1} → statement M
 class-ascends-spec =
     tie.close
     (tie.spec
-    Inv-loop
-    μ-loop
-    class-start-requires
-    class-count-requires
-    loop-holds
-    mul-number-at
-    add-number-at
-    number-at-requires
-    mul-number-at-2
-    add-number-at-2
-    add-number-at-3
-    number-at-requires-2
-    returns
-    returns-2
-    returns-3
-    add-least
-    add-i
-    loop-less
-    loop-again
-    returns-4)
+    Inv-loop μ-loop (λ c κs. search needs) (λ c κs. search needs) loop-holds mul-number-at add-number-at number-at-requires
+    mul-number-at-2 add-number-at-2 add-number-at-3 number-at-requires-2 returns returns-2 returns-3 (λ c. omega arith)
+    (λ c. omega arith) (λ c. omega arith) loop-again returns-4)

@@ -12,9 +12,6 @@ returns c = sym (check-short _ (c .if1 .taken))
 returns-2 : tie.Need-returns-2
 returns-2 c = sym (check-long _ (c .before .if1 .left) (c .if2 .taken))
 
-laid-out-requires : tie.Need-laid-out-requires
-laid-out-requires c κs = search needs
-
 returns-3 : tie.Need-returns-3
 returns-3 c =
     let a = c .before .before in
@@ -39,12 +36,4 @@ returns-5 c =
 
 pub class-check-spec : {M : Type 1} → statement M
 class-check-spec =
-    tie.close
-    (tie.spec
-    returns
-    returns-2
-    laid-out-requires
-    returns-3
-    ranges-right-requires
-    returns-4
-    returns-5)
+    tie.close (tie.spec returns returns-2 (λ c κs. search needs) returns-3 ranges-right-requires returns-4 returns-5)

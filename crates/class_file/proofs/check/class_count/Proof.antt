@@ -6,18 +6,12 @@ use Rattle.class_file.proofs.Accepted.{laid, header-within}
 use Rattle.class_file.proofs.check.class_count.Statement.{statement}
 use Rattle.class_file.proofs.check.class_count.Tie as tie
 
-mul-number-at : tie.Need-mul-number-at
-mul-number-at c = search needs
-
 number-at-requires : tie.Need-number-at-requires
 number-at-requires c κs = omega (arith, header-within _ (laid _ (c .before .pre .0)))
-
-cast-result : tie.Need-cast-result
-cast-result c = search needs
 
 returns : tie.Need-returns
 unfolding class-count
 returns c = c .number-at .ensures
 
 pub class-count-spec : {M : Type 1} → statement M
-class-count-spec = tie.close (tie.spec mul-number-at number-at-requires cast-result returns)
+class-count-spec = tie.close (tie.spec (λ c. search needs) number-at-requires (λ c. search needs) returns)

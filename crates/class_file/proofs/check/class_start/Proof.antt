@@ -7,17 +7,8 @@ use Rattle.class_file.proofs.Accepted.{laid, header-within}
 use Rattle.class_file.proofs.check.class_start.Statement.{statement}
 use Rattle.class_file.proofs.check.class_start.Tie as tie
 
-mul-number-at : tie.Need-mul-number-at
-mul-number-at c = search needs
-
-add-number-at : tie.Need-add-number-at
-add-number-at c = search needs
-
 number-at-requires : tie.Need-number-at-requires
 number-at-requires c κs = omega (arith, header-within _ (laid _ (c .before .pre .0)))
-
-cast-result : tie.Need-cast-result
-cast-result c = search needs
 
 returns : tie.Need-returns
 unfolding class-offset
@@ -25,4 +16,4 @@ returns c = c .number-at .ensures ∙ laid _ (c .before .before .pre .0) .offset
 
 pub class-start-spec : {M : Type 1} → statement M
 class-start-spec =
-    tie.close (tie.spec mul-number-at add-number-at number-at-requires cast-result returns)
+    tie.close (tie.spec (λ c. search needs) (λ c. search needs) number-at-requires (λ c. search needs) returns)

@@ -41,9 +41,6 @@ middle c =
     let w = accepted _ (a .pre .0) .within _ (a .pre .1) in
     record { counted = omega (arith, l .inv .within); inside = omega (arith, l .inv .within) }
 
-sub-mid : tie.Need-sub-mid Inv-loop μ-loop
-sub-mid c = search needs
-
 add-mid : tie.Need-add-mid Inv-loop μ-loop
 add-mid c = omega (arith, middle c)
 
@@ -75,9 +72,6 @@ last c =
     let a = t .before .before .before in
     last-read _ _ _ _ _ _ (a .before .class-start .ensures) (a .class-count .ensures) (middle (t .before) .counted) (c .number-at2 .ensures)
 
-loop-less : tie.Need-loop-less Inv-loop μ-loop
-loop-less c = search needs
-
 loop-again : tie.Need-loop-again Inv-loop μ-loop
 loop-again c =
     let t = c .before in
@@ -99,9 +93,6 @@ number-at-requires-2 c κs = omega (arith, middle (c .before .before) .inside)
 add-low : tie.Need-add-low Inv-loop μ-loop
 add-low c = omega (arith, middle (c .before .before .before .before) .counted)
 
-loop-less-2 : tie.Need-loop-less-2 Inv-loop μ-loop
-loop-less-2 c = omega arith
-
 loop-again-2 : tie.Need-loop-again-2 Inv-loop μ-loop
 loop-again-2 c =
     let t = c .before in
@@ -121,24 +112,6 @@ pub find-range-spec : {M : Type 1} → statement M
 find-range-spec =
     tie.close
     (tie.spec
-    Inv-loop
-    μ-loop
-    class-start-requires
-    class-count-requires
-    loop-holds
-    sub-mid
-    add-mid
-    mul-number-at
-    add-number-at
-    number-at-requires
-    loop-less
-    loop-again
-    mul-number-at-2
-    add-number-at-2
-    add-number-at-3
-    number-at-requires-2
-    add-low
-    loop-less-2
-    loop-again-2
-    returns
-    returns-2)
+    Inv-loop μ-loop class-start-requires class-count-requires loop-holds (λ c. search needs) add-mid mul-number-at add-number-at
+    number-at-requires (λ c. search needs) loop-again mul-number-at-2 add-number-at-2 add-number-at-3 number-at-requires-2 add-low
+    (λ c. omega arith) loop-again-2 returns returns-2)

@@ -4,12 +4,9 @@ use Rattle.definition.specs.ClassFile.{is-lm}
 use Rattle.class_file.proofs.members.is_lm.Statement.{statement}
 use Rattle.class_file.proofs.members.is_lm.Tie as tie
 
-in-class-requires : tie.Need-in-class-requires
-in-class-requires c κs = search needs
-
 returns : tie.Need-returns
 unfolding is-lm
 returns c = c .in-class .ensures
 
 pub is-lm-spec : {M : Type 1} → statement M
-is-lm-spec = tie.close (tie.spec in-class-requires returns)
+is-lm-spec = tie.close (tie.spec (λ c κs. search needs) returns)

@@ -4,12 +4,9 @@ use Rattle.definition.specs.ClassFile.{is-lt}
 use Rattle.class_file.proofs.members.is_lt.Statement.{statement}
 use Rattle.class_file.proofs.members.is_lt.Tie as tie
 
-in-class-requires : tie.Need-in-class-requires
-in-class-requires c κs = search needs
-
 returns : tie.Need-returns
 unfolding is-lt
 returns c = c .in-class .ensures
 
 pub is-lt-spec : {M : Type 1} → statement M
-is-lt-spec = tie.close (tie.spec in-class-requires returns)
+is-lt-spec = tie.close (tie.spec (λ c κs. search needs) returns)

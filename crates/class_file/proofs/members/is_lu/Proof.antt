@@ -4,12 +4,9 @@ use Rattle.definition.specs.ClassFile.{is-lu}
 use Rattle.class_file.proofs.members.is_lu.Statement.{statement}
 use Rattle.class_file.proofs.members.is_lu.Tie as tie
 
-in-class-requires : tie.Need-in-class-requires
-in-class-requires c κs = search needs
-
 returns : tie.Need-returns
 unfolding is-lu
 returns c = c .in-class .ensures
 
 pub is-lu-spec : {M : Type 1} → statement M
-is-lu-spec = tie.close (tie.spec in-class-requires returns)
+is-lu-spec = tie.close (tie.spec (λ c κs. search needs) returns)

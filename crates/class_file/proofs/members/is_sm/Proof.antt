@@ -4,12 +4,9 @@ use Rattle.definition.specs.ClassFile.{is-sm}
 use Rattle.class_file.proofs.members.is_sm.Statement.{statement}
 use Rattle.class_file.proofs.members.is_sm.Tie as tie
 
-in-class-requires : tie.Need-in-class-requires
-in-class-requires c κs = search needs
-
 returns : tie.Need-returns
 unfolding is-sm
 returns c = c .in-class .ensures
 
 pub is-sm-spec : {M : Type 1} → statement M
-is-sm-spec = tie.close (tie.spec in-class-requires returns)
+is-sm-spec = tie.close (tie.spec (λ c κs. search needs) returns)

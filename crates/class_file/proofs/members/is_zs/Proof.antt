@@ -4,12 +4,9 @@ use Rattle.definition.specs.ClassFile.{is-zs}
 use Rattle.class_file.proofs.members.is_zs.Statement.{statement}
 use Rattle.class_file.proofs.members.is_zs.Tie as tie
 
-in-class-requires : tie.Need-in-class-requires
-in-class-requires c κs = search needs
-
 returns : tie.Need-returns
 unfolding is-zs
 returns c = c .in-class .ensures
 
 pub is-zs-spec : {M : Type 1} → statement M
-is-zs-spec = tie.close (tie.spec in-class-requires returns)
+is-zs-spec = tie.close (tie.spec (λ c κs. search needs) returns)

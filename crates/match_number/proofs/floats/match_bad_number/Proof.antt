@@ -4,19 +4,9 @@ use borrow.Author.Needs.{needs}
 use Rattle.match_number.proofs.floats.match_bad_number.Statement.{statement}
 use Rattle.match_number.proofs.floats.match_bad_number.Tie as tie
 
-match-integer-requires : tie.Need-match-integer-requires
-match-integer-requires c κs = search needs
-
-floatp-after-requires : tie.Need-floatp-after-requires
-floatp-after-requires c κs = search needs
-
-bad-number-after-requires : tie.Need-bad-number-after-requires
-bad-number-after-requires c κs = search needs
-
 returns : tie.Need-returns
 returns c = bad-number-of _ _ _ (c .bad-number-after .ensures) (c .before .before .match-integer .ensures) (c .before .floatp-after .ensures)
 
 pub match-bad-number-spec : {M : Type 1} → statement M
 match-bad-number-spec =
-    tie.close
-    (tie.spec match-integer-requires floatp-after-requires bad-number-after-requires returns)
+    tie.close (tie.spec (λ c κs. search needs) (λ c κs. search needs) (λ c κs. search needs) returns)

@@ -6,14 +6,8 @@ use borrow.Author.Needs.{needs}
 use Rattle.match_number.proofs.floats.match_floatp.Statement.{statement}
 use Rattle.match_number.proofs.floats.match_floatp.Tie as tie
 
-match-integer-requires : tie.Need-match-integer-requires
-match-integer-requires c κs = search needs
-
-floatp-after-requires : tie.Need-floatp-after-requires
-floatp-after-requires c κs = search needs
-
 returns : tie.Need-returns
 returns c = then-of _ (c .floatp-after .ensures) (c .before .match-integer .ensures) ∙ floatp-is _ _
 
 pub match-floatp-spec : {M : Type 1} → statement M
-match-floatp-spec = tie.close (tie.spec match-integer-requires floatp-after-requires returns)
+match-floatp-spec = tie.close (tie.spec (λ c κs. search needs) (λ c κs. search needs) returns)

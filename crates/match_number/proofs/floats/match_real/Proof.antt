@@ -6,14 +6,8 @@ use borrow.Author.Needs.{needs}
 use Rattle.match_number.proofs.floats.match_real.Statement.{statement}
 use Rattle.match_number.proofs.floats.match_real.Tie as tie
 
-match-floatp-requires : tie.Need-match-floatp-requires
-match-floatp-requires c κs = search needs
-
-real-after-requires : tie.Need-real-after-requires
-real-after-requires c κs = search needs
-
 returns : tie.Need-returns
 returns c = then-of _ (c .real-after .ensures) (c .before .match-floatp .ensures) ∙ real-is _ _
 
 pub match-real-spec : {M : Type 1} → statement M
-match-real-spec = tie.close (tie.spec match-floatp-requires real-after-requires returns)
+match-real-spec = tie.close (tie.spec (λ c κs. search needs) (λ c κs. search needs) returns)

@@ -9,21 +9,12 @@ use native.Mathlib.Omega.{arith}
 use Rattle.match_number.proofs.floats.short_exponent.Statement.{statement}
 use Rattle.match_number.proofs.floats.short_exponent.Tie as tie
 
-byte-either-requires : tie.Need-byte-either-requires
-byte-either-requires c κs = search needs
-
 returns : tie.Need-returns
 unfolding is-e
 returns c = sym (short-no _ _ (sym (c .before .byte-either .ensures) ∙ not-true _ (c .if1 .taken)))
 
 add-skip-sign : tie.Need-add-skip-sign
 add-skip-sign c = omega (arith, has-inside _ _ _ (sym (c .before .byte-either .ensures) ∙ not-false _ (c .if1 .left)))
-
-skip-sign-requires : tie.Need-skip-sign-requires
-skip-sign-requires c κs = search needs
-
-digit-at-requires : tie.Need-digit-at-requires
-digit-at-requires c κs = search needs
 
 add-t8 : tie.Need-add-t8
 add-t8 c = omega (arith, has-inside _ _ _ (sym (c .before .digit-at .ensures) ∙ c .if2 .taken))
@@ -44,11 +35,4 @@ pub short-exponent-spec : {M : Type 1} → statement M
 short-exponent-spec =
     tie.close
     (tie.spec
-    byte-either-requires
-    returns
-    add-skip-sign
-    skip-sign-requires
-    digit-at-requires
-    add-t8
-    returns-2
-    returns-3)
+    (λ c κs. search needs) returns add-skip-sign (λ c κs. search needs) (λ c κs. search needs) add-t8 returns-2 returns-3)

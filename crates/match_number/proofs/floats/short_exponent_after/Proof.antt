@@ -3,21 +3,9 @@ use borrow.Author.Needs.{needs}
 use Rattle.match_number.proofs.floats.short_exponent_after.Statement.{statement}
 use Rattle.match_number.proofs.floats.short_exponent_after.Tie as tie
 
-enum-known-m : tie.Need-enum-known-m
-enum-known-m c = search needs
-
-enum-told : tie.Need-enum-told
-enum-told c = search needs
-
-returns : tie.Need-returns
-returns c = search needs
-
-short-exponent-requires : tie.Need-short-exponent-requires
-short-exponent-requires c κs = search needs
-
 returns-2 : tie.Need-returns-2
 returns-2 c = rw (c .before .before .m .given .1) (c .short-exponent .ensures)
 
 pub short-exponent-after-spec : {M : Type 1} → statement M
 short-exponent-after-spec =
-    tie.close (tie.spec enum-known-m enum-told returns short-exponent-requires returns-2)
+    tie.close (tie.spec (λ c. search needs) (λ c. search needs) (λ c. search needs) (λ c κs. search needs) returns-2)

@@ -5,20 +5,9 @@ use borrow.Author.Needs.{needs}
 use Rattle.match_number.proofs.floats.short_float.Statement.{statement}
 use Rattle.match_number.proofs.floats.short_float.Tie as tie
 
-short-exponent-after-requires : tie.Need-short-exponent-after-requires
-short-exponent-after-requires c κs = search needs
-
-short-exponent-after-requires-2 : tie.Need-short-exponent-after-requires-2
-short-exponent-after-requires-2 c κs = search needs
-
-later-requires : tie.Need-later-requires
-later-requires c κs = search needs
-
 returns : tie.Need-returns
 unfolding short-float
 returns c = later-of (c .later .ensures) (c .before .before .short-exponent-after .ensures) (c .before .short-exponent-after2 .ensures)
 
 pub short-float-spec : {M : Type 1} → statement M
-short-float-spec =
-    tie.close
-    (tie.spec short-exponent-after-requires short-exponent-after-requires-2 later-requires returns)
+short-float-spec = tie.close (tie.spec (λ c κs. search needs) (λ c κs. search needs) (λ c κs. search needs) returns)

@@ -7,9 +7,6 @@ use native.Mathlib.Omega.{arith}
 use Rattle.match_number.proofs.floats.skip_sign.Statement.{statement}
 use Rattle.match_number.proofs.floats.skip_sign.Tie as tie
 
-byte-either-requires : tie.Need-byte-either-requires
-byte-either-requires c κs = search needs
-
 add-result : tie.Need-add-result
 add-result c = omega (arith, has-inside _ _ _ (sym (c .before .byte-either .ensures) ∙ c .if1 .taken))
 
@@ -22,4 +19,4 @@ unfolding skip-sign
 returns-2 c = rw (sym (c .before .byte-either .ensures) ∙ c .if1 .left)
 
 pub skip-sign-spec : {M : Type 1} → statement M
-skip-sign-spec = tie.close (tie.spec byte-either-requires add-result returns returns-2)
+skip-sign-spec = tie.close (tie.spec (λ c κs. search needs) add-result returns returns-2)

@@ -7,20 +7,11 @@ use native.Mathlib.Omega.{arith}
 use Rattle.matchers.proofs.quoted.backtick_part.Statement.{statement}
 use Rattle.matchers.proofs.quoted.backtick_part.Tie as tie
 
-byte-is-requires : tie.Need-byte-is-requires
-byte-is-requires c κs = search needs
-
 add-one-in-backticks : tie.Need-add-one-in-backticks
 add-one-in-backticks c = omega (arith, has-inside _ _ _ (sym (c .before .byte-is .ensures) ∙ c .if1 .taken))
 
-one-in-backticks-requires : tie.Need-one-in-backticks-requires
-one-in-backticks-requires c κs = search needs
-
 returns : tie.Need-returns
 returns c = c .one-in-backticks .ensures ∙ sym (part-tick _ _ (sym (c .before .before .byte-is .ensures) ∙ c .before .if1 .taken))
-
-one-in-backticks-requires-2 : tie.Need-one-in-backticks-requires-2
-one-in-backticks-requires-2 c κs = search needs
 
 returns-2 : tie.Need-returns-2
 returns-2 c = c .one-in-backticks2 .ensures ∙ sym (part-other _ _ (sym (c .before .before .byte-is .ensures) ∙ c .before .if1 .left))
@@ -29,9 +20,4 @@ pub backtick-part-spec : {M : Type 1} → statement M
 backtick-part-spec =
     tie.close
     (tie.spec
-    byte-is-requires
-    add-one-in-backticks
-    one-in-backticks-requires
-    returns
-    one-in-backticks-requires-2
-    returns-2)
+    (λ c κs. search needs) add-one-in-backticks (λ c κs. search needs) returns (λ c κs. search needs) returns-2)

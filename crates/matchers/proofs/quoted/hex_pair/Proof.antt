@@ -7,14 +7,8 @@ use native.Mathlib.Omega.{arith}
 use Rattle.matchers.proofs.quoted.hex_pair.Statement.{statement}
 use Rattle.matchers.proofs.quoted.hex_pair.Tie as tie
 
-hex-at-requires : tie.Need-hex-at-requires
-hex-at-requires c κs = search needs
-
 add-hex-at : tie.Need-add-hex-at
 add-hex-at c = omega (arith, has-inside _ _ _ (sym (c .before .hex-at .ensures) ∙ c .if1 .taken))
-
-hex-at-requires-2 : tie.Need-hex-at-requires-2
-hex-at-requires-2 c κs = search needs
 
 returns : tie.Need-returns
 unfolding hex-pair
@@ -25,4 +19,4 @@ unfolding hex-pair
 returns-2 c = rw (sym (c .before .hex-at .ensures) ∙ c .if1 .left)
 
 pub hex-pair-spec : {M : Type 1} → statement M
-hex-pair-spec = tie.close (tie.spec hex-at-requires add-hex-at hex-at-requires-2 returns returns-2)
+hex-pair-spec = tie.close (tie.spec (λ c κs. search needs) add-hex-at (λ c κs. search needs) returns returns-2)

@@ -18,28 +18,16 @@ Inv-loop text i j₀ parts₀ j parts = (j ≤ length text) × (parts ≤ j) × 
 abbrev μ-loop : tie.MeasureT-loop
 μ-loop text i j₀ parts₀ j parts = length text - j
 
-byte-twice-requires : tie.Need-byte-twice-requires Inv-loop μ-loop
-byte-twice-requires c κs = search needs
-
 returns : tie.Need-returns Inv-loop μ-loop
-returns c = sym (ident-no _ _ (sym (c .before .byte-twice .ensures) ∙ not-true _ (c .if1 .taken)))
+returns c = sym (ident-no _ _ (sym (c .before .byte-pair .ensures) ∙ not-true _ (c .if1 .taken)))
 
 add-j : tie.Need-add-j Inv-loop μ-loop
-add-j c = omega (arith, twice-inside _ _ _ (sym (c .before .byte-twice .ensures) ∙ not-false _ (c .if1 .left)))
+add-j c = omega (arith, twice-inside _ _ _ (sym (c .before .byte-pair .ensures) ∙ not-false _ (c .if1 .left)))
 
 loop-holds : tie.Need-loop-holds Inv-loop μ-loop
 loop-holds c =
-    let h = twice-inside _ _ _ (sym (c .before .byte-twice .ensures) ∙ not-false _ (c .if1 .left)) in
+    let h = twice-inside _ _ _ (sym (c .before .byte-pair .ensures) ∙ not-false _ (c .if1 .left)) in
     (omega (arith, h), omega arith, refl)
-
-backtick-part-requires : tie.Need-backtick-part-requires Inv-loop μ-loop
-backtick-part-requires c κs = search needs
-
-enum-known-k : tie.Need-enum-known-k Inv-loop μ-loop
-enum-known-k c = search needs
-
-enum-told : tie.Need-enum-told Inv-loop μ-loop
-enum-told c = search needs
 
 add-parts : tie.Need-add-parts Inv-loop μ-loop
 add-parts c =
@@ -62,52 +50,34 @@ returns-2 : tie.Need-returns-2 Inv-loop μ-loop
 returns-2 c =
     let p = c .before .before .before in
     let l = p .before in
-    sym (ident-empty _ _ _ _ (sym (l .before .before .byte-twice .ensures) ∙ not-false _ (l .before .if1 .left)) (l .loop .inv .2)
+    sym (ident-empty _ _ _ _ (sym (l .before .before .byte-pair .ensures) ∙ not-false _ (l .before .if1 .left)) (l .loop .inv .2)
     (sym (p .backtick-part .ensures) ∙ c .before .enum-told .given .1)
     (c .if2 .taken))
 
-byte-twice-requires-2 : tie.Need-byte-twice-requires-2 Inv-loop μ-loop
-byte-twice-requires-2 c κs = search needs
-
 add-t10 : tie.Need-add-t10 Inv-loop μ-loop
-add-t10 c = omega (arith, twice-inside _ _ _ (sym (c .before .byte-twice2 .ensures) ∙ c .if3 .taken))
+add-t10 c = omega (arith, twice-inside _ _ _ (sym (c .before .byte-pair2 .ensures) ∙ c .if3 .taken))
 
 returns-3 : tie.Need-returns-3 Inv-loop μ-loop
 returns-3 c =
     let e = c .before .before in
     let p = e .before .before .before in
     let l = p .before in
-    sym (ident-found _ _ _ _ (sym (l .before .before .byte-twice .ensures) ∙ not-false _ (l .before .if1 .left)) (l .loop .inv .2)
+    sym (ident-found _ _ _ _ (sym (l .before .before .byte-pair .ensures) ∙ not-false _ (l .before .if1 .left)) (l .loop .inv .2)
     (sym (p .backtick-part .ensures) ∙ e .before .enum-told .given .1)
-    (e .if2 .left) (sym (c .before .byte-twice2 .ensures) ∙ c .if3 .taken))
+    (e .if2 .left) (sym (c .before .byte-pair2 .ensures) ∙ c .if3 .taken))
 
 returns-4 : tie.Need-returns-4 Inv-loop μ-loop
 returns-4 c =
     let e = c .before .before in
     let p = e .before .before .before in
     let l = p .before in
-    sym (ident-open _ _ _ _ (sym (l .before .before .byte-twice .ensures) ∙ not-false _ (l .before .if1 .left)) (l .loop .inv .2)
+    sym (ident-open _ _ _ _ (sym (l .before .before .byte-pair .ensures) ∙ not-false _ (l .before .if1 .left)) (l .loop .inv .2)
     (sym (p .backtick-part .ensures) ∙ e .before .enum-told .given .1)
-    (sym (c .before .byte-twice2 .ensures) ∙ c .if3 .left))
+    (sym (c .before .byte-pair2 .ensures) ∙ c .if3 .left))
 
 pub match-backtick-ident-spec : {M : Type 1} → statement M
 match-backtick-ident-spec =
     tie.close
     (tie.spec
-    Inv-loop
-    μ-loop
-    byte-twice-requires
-    returns
-    add-j
-    loop-holds
-    backtick-part-requires
-    enum-known-k
-    enum-told
-    add-parts
-    loop-less
-    loop-again
-    returns-2
-    byte-twice-requires-2
-    add-t10
-    returns-3
-    returns-4)
+    Inv-loop μ-loop (λ c κs. search needs) returns add-j loop-holds (λ c κs. search needs) (λ c. search needs) (λ c. search needs)
+    add-parts loop-less loop-again returns-2 (λ c κs. search needs) add-t10 returns-3 returns-4)

@@ -1,26 +1,14 @@
 -- `match_char` is the definition's `match-char`: both see nothing but what stands at the offset.
 use mathlib.Core.Path.{sym, _∙_}
-use Rattle.utf8.proofs.Character.{char-read, char-within}
+use Rattle.utf8.proofs.Character.{decoded-within}
 use Rattle.matchers.proofs.QuoteLaws.{char-other, char-slash, char-plain}
 use borrow.Author.Needs.{needs}
 use native.Mathlib.Omega.{arith}
 use Rattle.matchers.proofs.quoted.match_char.Statement.{statement}
 use Rattle.matchers.proofs.quoted.match_char.Tie as tie
 
-sequence-at-requires : tie.Need-sequence-at-requires
-sequence-at-requires c κs = search needs
-
-enum-known-c : tie.Need-enum-known-c
-enum-known-c c = search needs
-
 returns : tie.Need-returns
 returns c = sym (char-other _ _ (c .before .sequence-at .ensures) (c .match .keys2))
-
-cast-if1 : tie.Need-cast-if1
-cast-if1 c = search needs
-
-match-escape-requires : tie.Need-match-escape-requires
-match-escape-requires c κs = search needs
 
 returns-2 : tie.Need-returns-2
 returns-2 c =
@@ -30,7 +18,7 @@ returns-2 c =
 add-t8 : tie.Need-add-t8
 add-t8 c =
     let d = c .before .before in
-    omega (arith, char-within (char-read (sym (d .before .before .sequence-at .ensures) ∙ d .c .given .1)))
+    omega (arith, decoded-within _ _ (d .before .before .sequence-at .ensures) (d .c .given .1))
 
 returns-3 : tie.Need-returns-3
 returns-3 c =
@@ -41,11 +29,4 @@ pub match-char-spec : {M : Type 1} → statement M
 match-char-spec =
     tie.close
     (tie.spec
-    sequence-at-requires
-    enum-known-c
-    returns
-    cast-if1
-    match-escape-requires
-    returns-2
-    add-t8
-    returns-3)
+    (λ c κs. search needs) (λ c. search needs) returns (λ c. search needs) (λ c κs. search needs) returns-2 add-t8 returns-3)

@@ -8,9 +8,6 @@ use native.Mathlib.Omega.{arith}
 use Rattle.matchers.proofs.quoted.match_char_lit.Statement.{statement}
 use Rattle.matchers.proofs.quoted.match_char_lit.Tie as tie
 
-byte-is-requires : tie.Need-byte-is-requires
-byte-is-requires c κs = search needs
-
 returns : tie.Need-returns
 unfolding match-char-lit
 returns c = rw (sym (c .before .byte-is .ensures) ∙ not-true _ (c .if1 .taken))
@@ -18,23 +15,11 @@ returns c = rw (sym (c .before .byte-is .ensures) ∙ not-true _ (c .if1 .taken)
 add-match-char : tie.Need-add-match-char
 add-match-char c = omega (arith, has-inside _ _ _ (sym (c .before .byte-is .ensures) ∙ not-false _ (c .if1 .left)))
 
-match-char-requires : tie.Need-match-char-requires
-match-char-requires c κs = search needs
-
-enum-known-j : tie.Need-enum-known-j
-enum-known-j c = search needs
-
-enum-told : tie.Need-enum-told
-enum-told c = search needs
-
 returns-2 : tie.Need-returns-2
 unfolding match-char-lit
 returns-2 c =
     let b = c .before .before in
     rw (sym (b .before .before .byte-is .ensures) ∙ not-false _ (b .before .if1 .left), sym (b .match-char .ensures) ∙ c .enum-told .given .1)
-
-byte-is-requires-2 : tie.Need-byte-is-requires-2
-byte-is-requires-2 c κs = search needs
 
 returns-3 : tie.Need-returns-3
 unfolding match-char-lit
@@ -69,9 +54,6 @@ add-byte-is : tie.Need-add-byte-is
 add-byte-is c =
     let q = c .before in
     omega (arith, has-inside _ _ _ (sym (q .before .byte-is2 .ensures) ∙ not-false _ (q .if2 .left)))
-
-byte-is-requires-3 : tie.Need-byte-is-requires-3
-byte-is-requires-3 c κs = search needs
 
 add-t11 : tie.Need-add-t11
 add-t11 c = omega (arith, has-inside _ _ _ (sym (c .before .byte-is3 .ensures) ∙ c .if4 .taken))
@@ -108,19 +90,5 @@ pub match-char-lit-spec : {M : Type 1} → statement M
 match-char-lit-spec =
     tie.close
     (tie.spec
-    byte-is-requires
-    returns
-    add-match-char
-    match-char-requires
-    enum-known-j
-    enum-told
-    returns-2
-    byte-is-requires-2
-    returns-3
-    add-t9
-    returns-4
-    add-byte-is
-    byte-is-requires-3
-    add-t11
-    returns-5
-    returns-6)
+    (λ c κs. search needs) returns add-match-char (λ c κs. search needs) (λ c. search needs) (λ c. search needs) returns-2
+    (λ c κs. search needs) returns-3 add-t9 returns-4 add-byte-is (λ c κs. search needs) add-t11 returns-5 returns-6)

@@ -10,9 +10,6 @@ use native.Mathlib.Omega.{arith}
 use Rattle.matchers.proofs.quoted.match_escape.Statement.{statement}
 use Rattle.matchers.proofs.quoted.match_escape.Tie as tie
 
-byte-is-requires : tie.Need-byte-is-requires
-byte-is-requires c κs = search needs
-
 returns : tie.Need-returns
 unfolding match-escape
 returns c = rw (sym (c .before .byte-is .ensures) ∙ not-true _ (c .if1 .taken))
@@ -20,22 +17,10 @@ returns c = rw (sym (c .before .byte-is .ensures) ∙ not-true _ (c .if1 .taken)
 add-byte : tie.Need-add-byte
 add-byte c = omega (arith, has-inside _ _ _ (sym (c .before .byte-is .ensures) ∙ not-false _ (c .if1 .left)))
 
-byte-requires : tie.Need-byte-requires
-byte-requires c κs = search needs
-
-enum-known-c : tie.Need-enum-known-c
-enum-known-c c = search needs
-
-enum-told : tie.Need-enum-told
-enum-told c = search needs
-
 returns-2 : tie.Need-returns-2
 returns-2 c =
     let b = c .before .before in
     sym (escape-past _ _ (sym (b .before .before .byte-is .ensures) ∙ not-false _ (b .before .if1 .left)) (sym (b .byte .ensures) ∙ c .enum-told .given .1))
-
-is-escape-letter-requires : tie.Need-is-escape-letter-requires
-is-escape-letter-requires c κs = search needs
 
 add-t9 : tie.Need-add-t9
 add-t9 c =
@@ -53,9 +38,6 @@ add-hex-pair : tie.Need-add-hex-pair
 add-hex-pair c =
     let b = c .before .before .before .before .before in
     omega (arith, has-inside _ _ _ (sym (b .before .before .byte-is .ensures) ∙ not-false _ (b .before .if1 .left)))
-
-hex-pair-requires : tie.Need-hex-pair-requires
-hex-pair-requires c κs = search needs
 
 returns-4 : tie.Need-returns-4
 returns-4 c =
@@ -96,9 +78,6 @@ add-hex-pair-2 c =
     let b = c .before .before .before .before .before .before .before .before .before in
     omega (arith, has-inside _ _ _ (sym (b .before .before .byte-is .ensures) ∙ not-false _ (b .before .if1 .left)))
 
-hex-pair-requires-2 : tie.Need-hex-pair-requires-2
-hex-pair-requires-2 c κs = search needs
-
 add-t12 : tie.Need-add-t12
 add-t12 c =
     let b = c .before .before .before .before .before .before .before .before .before .before .before in
@@ -130,24 +109,6 @@ pub match-escape-spec : {M : Type 1} → statement M
 match-escape-spec =
     tie.close
     (tie.spec
-    byte-is-requires
-    returns
-    add-byte
-    byte-requires
-    enum-known-c
-    enum-told
-    returns-2
-    is-escape-letter-requires
-    add-t9
-    returns-3
-    add-hex-pair
-    hex-pair-requires
-    returns-4
-    add-t10
-    returns-5
-    returns-6
-    add-hex-pair-2
-    hex-pair-requires-2
-    add-t12
-    returns-7
-    returns-8)
+    (λ c κs. search needs) returns add-byte (λ c κs. search needs) (λ c. search needs) (λ c. search needs) returns-2
+    (λ c κs. search needs) add-t9 returns-3 add-hex-pair (λ c κs. search needs) returns-4 add-t10 returns-5 returns-6
+    add-hex-pair-2 (λ c κs. search needs) add-t12 returns-7 returns-8)

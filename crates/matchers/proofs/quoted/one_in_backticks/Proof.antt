@@ -1,6 +1,6 @@
 -- `one_in_backticks` is the definition's `one` over its test.
 use mathlib.Core.Path.{sym, _∙_}
-use Rattle.utf8.proofs.Character.{char-read, char-within}
+use Rattle.utf8.proofs.Character.{decoded-within}
 use Rattle.star.proofs.RunLaws.{one-yes, one-no, one-other}
 use Rattle.matchers.proofs.QuoteLaws.{ticks-tick, ticks-newline, ticks-yes}
 use borrow.Author.Needs.{needs}
@@ -8,25 +8,13 @@ use native.Mathlib.Omega.{arith}
 use Rattle.matchers.proofs.quoted.one_in_backticks.Statement.{statement}
 use Rattle.matchers.proofs.quoted.one_in_backticks.Tie as tie
 
-sequence-at-requires : tie.Need-sequence-at-requires
-sequence-at-requires c κs = search needs
-
-enum-known-c : tie.Need-enum-known-c
-enum-known-c c = search needs
-
 returns : tie.Need-returns
 returns c = sym (one-other _ _ _ (c .before .sequence-at .ensures) (c .match .keys2))
-
-cast-if1 : tie.Need-cast-if1
-cast-if1 c = search needs
 
 returns-2 : tie.Need-returns-2
 returns-2 c =
     let d = c .before .before in
     sym (one-no _ _ _ (sym (d .before .before .sequence-at .ensures) ∙ d .c .given .1) (ticks-tick _ (c .if1 .taken)))
-
-is-newline-char-requires : tie.Need-is-newline-char-requires
-is-newline-char-requires c κs = search needs
 
 returns-3 : tie.Need-returns-3
 returns-3 c =
@@ -36,7 +24,7 @@ returns-3 c =
 add-t9 : tie.Need-add-t9
 add-t9 c =
     let d = c .before .before .before .before in
-    omega (arith, char-within (char-read (sym (d .before .before .sequence-at .ensures) ∙ d .c .given .1)))
+    omega (arith, decoded-within _ _ (d .before .before .sequence-at .ensures) (d .c .given .1))
 
 returns-4 : tie.Need-returns-4
 returns-4 c =
@@ -47,12 +35,5 @@ pub one-in-backticks-spec : {M : Type 1} → statement M
 one-in-backticks-spec =
     tie.close
     (tie.spec
-    sequence-at-requires
-    enum-known-c
-    returns
-    cast-if1
-    returns-2
-    is-newline-char-requires
-    returns-3
-    add-t9
+    (λ c κs. search needs) (λ c. search needs) returns (λ c. search needs) returns-2 (λ c κs. search needs) returns-3 add-t9
     returns-4)

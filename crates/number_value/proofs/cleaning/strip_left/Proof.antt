@@ -18,22 +18,10 @@ abbrev μ-loop : tie.MeasureT-loop
 loop-holds : tie.Need-loop-holds Inv-loop μ-loop
 loop-holds c = left-starts _
 
-shared-slice-read-strips : tie.Need-shared-slice-read-strips Inv-loop μ-loop
-shared-slice-read-strips c = search needs
-
-strips-requires : tie.Need-strips-requires Inv-loop μ-loop
-strips-requires c κs = search needs
-
 returns : tie.Need-returns Inv-loop μ-loop
 returns c =
     let d = c .before .before .before in
     left-stops (d .before .loop .inv) (d .loop-test .taken) (sym (c .before .strips .ensures) ∙ not-true _ (c .if1 .taken))
-
-add-from : tie.Need-add-from Inv-loop μ-loop
-add-from c = omega arith
-
-loop-less : tie.Need-loop-less Inv-loop μ-loop
-loop-less c = omega arith
 
 loop-again : tie.Need-loop-again Inv-loop μ-loop
 loop-again c =
@@ -47,13 +35,5 @@ pub strip-left-spec : {M : Type 1} → statement M
 strip-left-spec =
     tie.close
     (tie.spec
-    Inv-loop
-    μ-loop
-    loop-holds
-    shared-slice-read-strips
-    strips-requires
-    returns
-    add-from
-    loop-less
-    loop-again
+    Inv-loop μ-loop loop-holds (λ c. search needs) (λ c κs. search needs) returns (λ c. omega arith) (λ c. omega arith) loop-again
     returns-2)

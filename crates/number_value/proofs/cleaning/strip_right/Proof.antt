@@ -17,25 +17,10 @@ abbrev μ-loop : tie.MeasureT-loop
 loop-holds : tie.Need-loop-holds Inv-loop μ-loop
 loop-holds c = right-starts _ _ (c .before .pre)
 
-sub-strips : tie.Need-sub-strips Inv-loop μ-loop
-sub-strips c = omega arith
-
-shared-slice-read-strips : tie.Need-shared-slice-read-strips Inv-loop μ-loop
-shared-slice-read-strips c = omega arith
-
-strips-requires : tie.Need-strips-requires Inv-loop μ-loop
-strips-requires c κs = search needs
-
 returns : tie.Need-returns Inv-loop μ-loop
 returns c =
     let d = c .before .before .before in
     right-stops (d .before .loop .inv) (d .loop-test .taken) (sym (c .before .strips .ensures) ∙ not-true _ (c .if1 .taken))
-
-sub-to : tie.Need-sub-to Inv-loop μ-loop
-sub-to c = omega arith
-
-loop-less : tie.Need-loop-less Inv-loop μ-loop
-loop-less c = omega arith
 
 loop-again : tie.Need-loop-again Inv-loop μ-loop
 loop-again c =
@@ -49,14 +34,5 @@ pub strip-right-spec : {M : Type 1} → statement M
 strip-right-spec =
     tie.close
     (tie.spec
-    Inv-loop
-    μ-loop
-    loop-holds
-    sub-strips
-    shared-slice-read-strips
-    strips-requires
-    returns
-    sub-to
-    loop-less
-    loop-again
-    returns-2)
+    Inv-loop μ-loop loop-holds (λ c. omega arith) (λ c. omega arith) (λ c κs. search needs) returns (λ c. omega arith)
+    (λ c. omega arith) loop-again returns-2)

@@ -13,37 +13,19 @@ Inv-loop n out₀ count left₀ at₀ out left at = Showing n out₀ left at out
 abbrev μ-loop : tie.MeasureT-loop
 μ-loop n out₀ count left₀ at₀ out left at = left
 
-show-length-requires : tie.Need-show-length-requires Inv-loop μ-loop
-show-length-requires c κs = search needs
-
 loop-holds : tie.Need-loop-holds Inv-loop μ-loop
 loop-holds c = showing-starts _ _ _ (c .before .before .pre) (c .show-length .ensures)
 
 sub-at : tie.Need-sub-at Inv-loop μ-loop
 sub-at c = omega (arith, showing-room (c .before .loop .inv) (c .loop-test .taken))
 
-cast-out : tie.Need-cast-out Inv-loop μ-loop
-cast-out c = omega arith
-
-add-out : tie.Need-add-out Inv-loop μ-loop
-add-out c = omega arith
-
 slice-write-out : tie.Need-slice-write-out Inv-loop μ-loop
 slice-write-out c =
     let r = showing-room (c .before .loop .inv) (c .loop-test .taken) in
     omega (arith, showing-length (c .before .loop .inv))
 
-loop-less : tie.Need-loop-less Inv-loop μ-loop
-loop-less c = omega arith
-
 loop-again : tie.Need-loop-again Inv-loop μ-loop
 loop-again c = showing-goes-on (c .before .loop .inv) (c .loop-test .taken)
-
-cast-out-2 : tie.Need-cast-out-2 Inv-loop μ-loop
-cast-out-2 c = omega arith
-
-add-out-2 : tie.Need-add-out-2 Inv-loop μ-loop
-add-out-2 c = omega arith
 
 slice-write-out-2 : tie.Need-slice-write-out-2 Inv-loop μ-loop
 slice-write-out-2 c = omega (arith, showing-first (c .before .loop .inv) (c .loop-test .left), showing-length (c .before .loop .inv))
@@ -59,18 +41,5 @@ pub show-into-spec : {M : Type 1} → statement M
 show-into-spec =
     tie.close
     (tie.spec
-    Inv-loop
-    μ-loop
-    show-length-requires
-    loop-holds
-    sub-at
-    cast-out
-    add-out
-    slice-write-out
-    loop-less
-    loop-again
-    cast-out-2
-    add-out-2
-    slice-write-out-2
-    same-length
-    returns)
+    Inv-loop μ-loop (λ c κs. search needs) loop-holds sub-at (λ c. omega arith) (λ c. omega arith) slice-write-out
+    (λ c. omega arith) loop-again (λ c. omega arith) (λ c. omega arith) slice-write-out-2 same-length returns)

@@ -16,9 +16,6 @@ loop-holds c = counted-starts _
 add-count : tie.Need-add-count Inv-loop μ-loop
 add-count c = omega (arith, c .before .loop .inv .few)
 
-loop-less : tie.Need-loop-less Inv-loop μ-loop
-loop-less c = omega arith
-
 loop-again : tie.Need-loop-again Inv-loop μ-loop
 loop-again c = counted-goes-on (c .before .loop .inv) (c .loop-test .taken)
 
@@ -26,5 +23,4 @@ returns : tie.Need-returns Inv-loop μ-loop
 returns c = counted-ends (c .before .loop .inv) (c .loop-test .left)
 
 pub show-length-spec : {M : Type 1} → statement M
-show-length-spec =
-    tie.close (tie.spec Inv-loop μ-loop loop-holds add-count loop-less loop-again returns)
+show-length-spec = tie.close (tie.spec Inv-loop μ-loop loop-holds add-count (λ c. omega arith) loop-again returns)

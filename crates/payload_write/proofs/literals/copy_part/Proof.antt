@@ -14,9 +14,6 @@ Inv-loop text i e out₀ n j₀ out j = Copied (lexeme text i e) out₀ j out
 abbrev μ-loop : tie.MeasureT-loop
 μ-loop text i e out₀ n j₀ out j = n - j
 
-span-requires : tie.Need-span-requires Inv-loop μ-loop
-span-requires c κs = search needs
-
 loop-holds : tie.Need-loop-holds Inv-loop μ-loop
 loop-holds c = part-starts (c .before .before .before .pre) (c .span .ensures)
 
@@ -28,12 +25,6 @@ shared-slice-read-out c = omega (arith, c .before .before .before .span .ensures
 
 slice-write-out : tie.Need-slice-write-out Inv-loop μ-loop
 slice-write-out c = omega (arith, copied-length (c .before .before .loop .inv), c .before .before .before .span .ensures, c .before .before .before .before .before .before .pre .room)
-
-add-j : tie.Need-add-j Inv-loop μ-loop
-add-j c = omega arith
-
-loop-less : tie.Need-loop-less Inv-loop μ-loop
-loop-less c = omega arith
 
 loop-again : tie.Need-loop-again Inv-loop μ-loop
 loop-again c = part-goes-on (c .before .before .before .before .before .before .pre) (c .before .before .before .span .ensures) (c .before .before .loop .inv) (c .before .loop-test .taken)
@@ -48,15 +39,5 @@ pub copy-part-spec : {M : Type 1} → statement M
 copy-part-spec =
     tie.close
     (tie.spec
-    Inv-loop
-    μ-loop
-    span-requires
-    loop-holds
-    add-out
-    shared-slice-read-out
-    slice-write-out
-    add-j
-    loop-less
-    loop-again
-    same-length
-    returns)
+    Inv-loop μ-loop (λ c κs. search needs) loop-holds add-out shared-slice-read-out slice-write-out (λ c. omega arith)
+    (λ c. omega arith) loop-again same-length returns)

@@ -27,17 +27,11 @@ sub-put c =
 part-put-start : tie.Need-part-put-start Inv-loop μ-loop
 part-put-start c = sub-put c
 
-part-put-end : tie.Need-part-put-end Inv-loop μ-loop
-part-put-end c = search needs
-
 put-requires : tie.Need-put-requires Inv-loop μ-loop
 put-requires c κs = writing-puts (c .before .before .before .loop .inv) (c .before .before .loop-test .taken) (c .before .string-move .ensures)
 
 add-at : tie.Need-add-at Inv-loop μ-loop
 add-at c = omega (arith, writing-fits (c .before .before .before .before .before .before .loop .inv) (c .before .before .before .before .before .loop-test .taken) (c .before .before .before .before .string-move .ensures) (c .before .before .put .ensures))
-
-end-of-requires : tie.Need-end-of-requires Inv-loop μ-loop
-end-of-requires c κs = search needs
 
 loop-less : tie.Need-loop-less Inv-loop μ-loop
 loop-less c = writing-less (c .before .before .before .before .before .before .before .loop .inv) (c .before .before .before .before .before .before .loop-test .taken) (c .before .before .before .before .before .string-move .ensures) (c .end-of .ensures)
@@ -55,17 +49,5 @@ pub write-literal-spec : {M : Type 1} → statement M
 write-literal-spec =
     tie.close
     (tie.spec
-    Inv-loop
-    μ-loop
-    loop-holds
-    string-move-requires
-    sub-put
-    part-put-start
-    part-put-end
-    put-requires
-    add-at
-    end-of-requires
-    loop-less
-    loop-again
-    same-length
-    returns)
+    Inv-loop μ-loop loop-holds string-move-requires sub-put part-put-start (λ c. search needs) put-requires add-at
+    (λ c κs. search needs) loop-less loop-again same-length returns)

@@ -8,9 +8,6 @@ use Rattle.position.proofs.Ascii.{start-covered, end-covered, asked-on}
 use Rattle.position.proofs.ascii_runs.columns.Statement.{statement}
 use Rattle.position.proofs.ascii_runs.columns.Tie as tie
 
-covers-requires : tie.Need-covers-requires
-covers-requires c κs = search needs
-
 sub-t10 : tie.Need-sub-t10
 sub-t10 c = omega (arith, c .before .before .covers .ensures (c .before .if1 .taken) .behind)
 
@@ -39,9 +36,6 @@ returns c =
     let v = t .before .covers .ensures (t .if1 .taken) in
     (ap (λ (x : Cache). x .col) (start-covered (pre .2) v (pre .0)), ap (λ (x : Cache). x .col) (end-covered (pre .2) v (pre .1)))
 
-known-after-requires : tie.Need-known-after-requires
-known-after-requires c κs = search needs
-
 known-after-requires-2 : tie.Need-known-after-requires-2
 known-after-requires-2 c κs =
     let pre = c .before .before .before .before .pre in
@@ -54,12 +48,4 @@ pub columns-spec : {M : Type 1} → statement M
 columns-spec =
     tie.close
     (tie.spec
-    covers-requires
-    sub-t10
-    add-t11
-    sub-t12
-    add-t13
-    returns
-    known-after-requires
-    known-after-requires-2
-    returns-2)
+    (λ c κs. search needs) sub-t10 add-t11 sub-t12 add-t13 returns (λ c κs. search needs) known-after-requires-2 returns-2)

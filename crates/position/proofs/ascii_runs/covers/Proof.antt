@@ -7,17 +7,11 @@ use Rattle.position.proofs.ascii_runs.covers.Tie as tie
 returns : tie.Need-returns
 returns c = λ e. absurd (false≢true e)
 
-cast-if2 : tie.Need-cast-if2
-cast-if2 c = search needs
-
 returns-2 : tie.Need-returns-2
 returns-2 c = λ e. absurd (false≢true e)
 
 returns-3 : tie.Need-returns-3
 returns-3 c = λ e. absurd (false≢true e)
 
-returns-4 : tie.Need-returns-4
-returns-4 c = search needs
-
 pub covers-spec : {M : Type 1} → statement M
-covers-spec = tie.close (tie.spec returns cast-if2 returns-2 returns-3 returns-4)
+covers-spec = tie.close (tie.spec returns (λ c. search needs) returns-2 returns-3 (λ c. search needs))

@@ -10,12 +10,6 @@ use Rattle.read_comment.proofs.ReadLaws.{line-ends, line-asked, line-re
 use Rattle.read_comment.proofs.line_comments.line_comment.Statement.{statement}
 use Rattle.read_comment.proofs.line_comments.line_comment.Tie as tie
 
-cast-run-end : tie.Need-cast-run-end
-cast-run-end c = search needs
-
-run-end-requires : tie.Need-run-end-requires
-run-end-requires c κs = search needs
-
 pos-of-requires : tie.Need-pos-of-requires
 pos-of-requires c κs = asks-here (c .before .before .before .before .before .pre .standing)
 
@@ -34,16 +28,10 @@ cast-advance c =
     let d = c .before .before in
     omega (arith, line-ends (d .before .before .before .before .before .pre) (d .run-end .ensures))
 
-advance-requires : tie.Need-advance-requires
-advance-requires c κs = search needs
-
 one-more-comment-requires : tie.Need-one-more-comment-requires
 one-more-comment-requires c κs =
     let h = small (c .before .before .before .before .before .before .before .before .pre .standing .stands) in
     omega (arith, h .counts, ap (λ (a : State). a .comments) (c .advance .ensures))
-
-span-requires : tie.Need-span-requires
-span-requires c κs = search needs
 
 cast-t16 : tie.Need-cast-t16
 cast-t16 c =
@@ -62,14 +50,5 @@ pub line-comment-spec : {M : Type 1} → statement M
 line-comment-spec =
     tie.close
     (tie.spec
-    cast-run-end
-    run-end-requires
-    pos-of-requires
-    cast-pos-of
-    pos-of-requires-2
-    cast-advance
-    advance-requires
-    one-more-comment-requires
-    span-requires
-    cast-t16
-    returns)
+    (λ c. search needs) (λ c κs. search needs) pos-of-requires cast-pos-of pos-of-requires-2 cast-advance (λ c κs. search needs)
+    one-more-comment-requires (λ c κs. search needs) cast-t16 returns)

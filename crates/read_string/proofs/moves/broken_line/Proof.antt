@@ -7,14 +7,8 @@ use borrow.Author.Needs.{needs}
 use Rattle.read_string.proofs.moves.broken_line.Statement.{statement}
 use Rattle.read_string.proofs.moves.broken_line.Tie as tie
 
-byte-is-requires : tie.Need-byte-is-requires
-byte-is-requires c κs = search needs
-
 add-match-newline : tie.Need-add-match-newline
 add-match-newline c = omega (arith, has-inside _ _ _ (sym (c .before .byte-is .ensures) ∙ c .if1 .taken))
-
-match-newline-requires : tie.Need-match-newline-requires
-match-newline-requires c κs = search needs
 
 returns : tie.Need-returns
 returns c = broken-on _ _ (sym (c .before .before .byte-is .ensures) ∙ c .before .if1 .taken) (c .match-newline .ensures)
@@ -24,5 +18,4 @@ returns-2 c = broken-off _ _ (sym (c .before .byte-is .ensures) ∙ c .if1 .left
 
 pub broken-line-spec : {M : Type 1} → statement M
 broken-line-spec =
-    tie.close
-    (tie.spec byte-is-requires add-match-newline match-newline-requires returns returns-2)
+    tie.close (tie.spec (λ c κs. search needs) add-match-newline (λ c κs. search needs) returns returns-2)

@@ -5,12 +5,6 @@ use borrow.Author.Needs.{needs}
 use Rattle.read_string.proofs.moves.escape_move.Statement.{statement}
 use Rattle.read_string.proofs.moves.escape_move.Tie as tie
 
-unescape-requires : tie.Need-unescape-requires
-unescape-requires c κs = search needs
-
-is-surrogate-requires : tie.Need-is-surrogate-requires
-is-surrogate-requires c κs = search needs
-
 returns : tie.Need-returns
 returns c = escape-surrogate _ _ _ (c .before .before .unescape .ensures) (sym (c .before .is-surrogate .ensures) ∙ c .if1 .taken)
 
@@ -18,4 +12,4 @@ returns-2 : tie.Need-returns-2
 returns-2 c = escape-char _ _ _ (c .before .before .unescape .ensures) (sym (c .before .is-surrogate .ensures) ∙ c .if1 .left)
 
 pub escape-move-spec : {M : Type 1} → statement M
-escape-move-spec = tie.close (tie.spec unescape-requires is-surrogate-requires returns returns-2)
+escape-move-spec = tie.close (tie.spec (λ c κs. search needs) (λ c κs. search needs) returns returns-2)

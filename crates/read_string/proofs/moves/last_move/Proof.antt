@@ -7,21 +7,12 @@ use Rattle.read_string.proofs.moves.last_move.Tie as tie
 returns : tie.Need-returns
 returns c = last-open _ _ (c .if1 .taken)
 
-shared-slice-read-if2 : tie.Need-shared-slice-read-if2
-shared-slice-read-if2 c = search needs
-
-add-t7 : tie.Need-add-t7
-add-t7 c = search needs
-
 returns-2 : tie.Need-returns-2
 returns-2 c = last-close _ _ (c .before .before .if1 .left) (c .if2 .taken)
-
-add-t3 : tie.Need-add-t3
-add-t3 c = search needs
 
 returns-3 : tie.Need-returns-3
 returns-3 c = last-lone _ _ (c .before .before .if1 .left) (c .if2 .left)
 
 pub last-move-spec : {M : Type 1} → statement M
 last-move-spec =
-    tie.close (tie.spec returns shared-slice-read-if2 add-t7 returns-2 add-t3 returns-3)
+    tie.close (tie.spec returns (λ c. search needs) (λ c. search needs) returns-2 (λ c. search needs) returns-3)

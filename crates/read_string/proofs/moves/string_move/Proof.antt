@@ -5,31 +5,13 @@ use borrow.Author.Needs.{needs}
 use Rattle.read_string.proofs.moves.string_move.Statement.{statement}
 use Rattle.read_string.proofs.moves.string_move.Tie as tie
 
-run-end-requires : tie.Need-run-end-requires
-run-end-requires c κs = search needs
-
 returns : tie.Need-returns
 returns c = move-run _ _ _ (c .before .run-end .ensures) (c .if1 .taken)
-
-broken-line-requires : tie.Need-broken-line-requires
-broken-line-requires c κs = search needs
-
-enum-known-nl : tie.Need-enum-known-nl
-enum-known-nl c = search needs
-
-enum-told : tie.Need-enum-told
-enum-told c = search needs
-
-stop-move-requires : tie.Need-stop-move-requires
-stop-move-requires c κs = search needs
 
 returns-2 : tie.Need-returns-2
 returns-2 c =
     let d = c .before .before .before in
     move-stop _ _ _ (d .before .before .run-end .ensures) (d .before .if1 .left) (sym (d .broken-line .ensures) ∙ c .before .enum-told .given .1) (c .stop-move .ensures)
-
-star-anywhite-requires : tie.Need-star-anywhite-requires
-star-anywhite-requires c κs = search needs
 
 returns-3 : tie.Need-returns-3
 returns-3 c =
@@ -40,12 +22,5 @@ pub string-move-spec : {M : Type 1} → statement M
 string-move-spec =
     tie.close
     (tie.spec
-    run-end-requires
-    returns
-    broken-line-requires
-    enum-known-nl
-    enum-told
-    stop-move-requires
-    returns-2
-    star-anywhite-requires
-    returns-3)
+    (λ c κs. search needs) returns (λ c κs. search needs) (λ c. search needs) (λ c. search needs) (λ c κs. search needs) returns-2
+    (λ c κs. search needs) returns-3)

@@ -3,15 +3,6 @@ use borrow.Author.Needs.{needs}
 use Rattle.reader.proofs.cursors.next_line.Statement.{statement}
 use Rattle.reader.proofs.cursors.next_line.Tie as tie
 
-cast-advance : tie.Need-cast-advance
-cast-advance c = search needs
-
-advance-requires : tie.Need-advance-requires
-advance-requires c κs = search needs
-
-cast-t6 : tie.Need-cast-t6
-cast-t6 c = search needs
-
 new-line-requires : tie.Need-new-line-requires
 new-line-requires c κs = rw (c .advance .ensures) (c .before .before .pre .1)
 
@@ -20,4 +11,4 @@ returns c = rw (c .new-line .ensures, c .before .advance .ensures)
 
 pub next-line-spec : {M : Type 1} → statement M
 next-line-spec =
-    tie.close (tie.spec cast-advance advance-requires cast-t6 new-line-requires returns)
+    tie.close (tie.spec (λ c. search needs) (λ c κs. search needs) (λ c. search needs) new-line-requires returns)

@@ -9,12 +9,6 @@ use Rattle.reader.proofs.tokens.lex_error.Tie as tie
 pos-of-requires : tie.Need-pos-of-requires
 pos-of-requires c κs = asks-here (c .before .before .pre .0)
 
-ended-requires : tie.Need-ended-requires
-ended-requires c κs = search needs
-
-token-requires : tie.Need-token-requires
-token-requires c κs = search needs
-
 returns : tie.Need-returns
 unfolding kind kind-names number-from
 returns c =
@@ -22,4 +16,4 @@ returns c =
     λ f bytes q. error-reads _ _ (d .before .before .before .pre .0) (d .pos-of .ensures) (c .before .ended .ensures) (c .token .ensures _ f bytes q)
 
 pub lex-error-spec : {M : Type 1} → statement M
-lex-error-spec = tie.close (tie.spec pos-of-requires ended-requires token-requires returns)
+lex-error-spec = tie.close (tie.spec pos-of-requires (λ c κs. search needs) (λ c κs. search needs) returns)

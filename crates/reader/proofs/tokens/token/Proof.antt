@@ -4,14 +4,8 @@ use borrow.Author.Needs.{needs}
 use Rattle.reader.proofs.tokens.token.Statement.{statement}
 use Rattle.reader.proofs.tokens.token.Tie as tie
 
-length-of-requires : tie.Need-length-of-requires
-length-of-requires c κs = search needs
-
-cast-length : tie.Need-cast-length
-cast-length c = search needs
-
 returns : tie.Need-returns
 returns c = λ s f bytes d q. token-reads s _ f bytes _ _ _ _ _ _ _ _ (c .length-of .ensures) d q
 
 pub token-spec : {M : Type 1} → statement M
-token-spec = tie.close (tie.spec length-of-requires cast-length returns)
+token-spec = tie.close (tie.spec (λ c κs. search needs) (λ c. search needs) returns)

@@ -8,17 +8,11 @@ use Rattle.table_keywords.specs.Places.{place}
 use Rattle.table_keywords.proofs.constructors.constructor.Statement.{statement}
 use Rattle.table_keywords.proofs.constructors.constructor.Tie as tie
 
-is-word-requires : tie.Need-is-word-requires
-is-word-requires c κs = search needs
-
 returns : tie.Need-returns
 unfolding place words keywords constructors uoperators cps encode-all encode
 returns c =
     let e = sym (c .before .is-word .ensures) ∙ c .if1 .taken in
     rw (place, e)
-
-is-word-requires-2 : tie.Need-is-word-requires-2
-is-word-requires-2 c κs = search needs
 
 returns-2 : tie.Need-returns-2
 unfolding place words keywords constructors uoperators cps encode-all encode
@@ -26,9 +20,6 @@ returns-2 c =
     let n = sym (c .before .before .before .is-word .ensures) ∙ c .before .before .if1 .left in
     let e = sym (c .before .is-word2 .ensures) ∙ c .if2 .taken in
     rw (place, n, place, e)
-
-is-word-requires-3 : tie.Need-is-word-requires-3
-is-word-requires-3 c κs = search needs
 
 returns-3 : tie.Need-returns-3
 unfolding place words keywords constructors uoperators cps encode-all encode
@@ -52,10 +43,4 @@ pub constructor-spec : {M : Type 1} → statement M
 constructor-spec =
     tie.close
     (tie.spec
-    is-word-requires
-    returns
-    is-word-requires-2
-    returns-2
-    is-word-requires-3
-    returns-3
-    returns-4)
+    (λ c κs. search needs) returns (λ c κs. search needs) returns-2 (λ c κs. search needs) returns-3 returns-4)

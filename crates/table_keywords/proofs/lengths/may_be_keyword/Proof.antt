@@ -13,24 +13,9 @@ returns-2 : tie.Need-returns-2
 unfolding may-be-keyword
 returns-2 c = search (all-tests, needs)
 
-shared-slice-read-if3 : tie.Need-shared-slice-read-if3
-shared-slice-read-if3 c = search needs
-
 returns-3 : tie.Need-returns-3
 unfolding may-be-keyword
 returns-3 c = search (all-tests, needs)
-
-shared-slice-read-lengths : tie.Need-shared-slice-read-lengths
-shared-slice-read-lengths c = search needs
-
-lengths-requires : tie.Need-lengths-requires
-lengths-requires c κs = search needs
-
-cast-result : tie.Need-cast-result
-cast-result c = search needs
-
-shr-result : tie.Need-shr-result
-shr-result c = search needs
 
 returns-4 : tie.Need-returns-4
 returns-4 c = by-length _ (c .before .before .before .before .if2 .left) (c .before .before .if3 .left) (c .lengths .ensures)
@@ -39,12 +24,5 @@ pub may-be-keyword-spec : {M : Type 1} → statement M
 may-be-keyword-spec =
     tie.close
     (tie.spec
-    returns
-    returns-2
-    shared-slice-read-if3
-    returns-3
-    shared-slice-read-lengths
-    lengths-requires
-    cast-result
-    shr-result
-    returns-4)
+    returns returns-2 (λ c. search needs) returns-3 (λ c. search needs) (λ c κs. search needs) (λ c. search needs)
+    (λ c. search needs) returns-4)

@@ -1,23 +1,14 @@
--- `at_returns` tries one row.
+-- `at_returns` tries the one token that begins with the byte.
 use Rattle.definition.specs.Utf8.{encode, encode-all}
 use Rattle.definition.specs.Tables.{cps, op-tokens}
+use mathlib.Core.Path.{refl}
 use Rattle.table_words.specs.Rows.{try-rows}
-use borrow.Author.Needs.{needs}
 use Rattle.table_op_tokens.proofs.tokens_at.at_returns.Statement.{statement}
 use Rattle.table_op_tokens.proofs.tokens_at.at_returns.Tie as tie
 
-nothing-requires : tie.Need-nothing-requires
-nothing-requires c κs = search needs
-
-slice-aggregate-try-word : tie.Need-slice-aggregate-try-word
-slice-aggregate-try-word c = search needs
-
-try-word-requires : tie.Need-try-word-requires
-try-word-requires c κs = search needs
-
-returns : tie.Need-returns
-unfolding try-rows op-tokens cps encode-all encode
-returns c = rw (c .try-word .ensures, c .before .before .nothing .ensures)
-
 pub at-returns-spec : {M : Type 1} → statement M
-at-returns-spec = tie.close (tie.spec nothing-requires slice-aggregate-try-word try-word-requires returns)
+unfolding try-rows op-tokens cps encode-all encode
+at-returns-spec =
+    tie.close
+    (tie.spec (λ c κs. tt) (λ c. refl) (λ c κs. tt)
+    (λ c. rw (c .try-word .ensures, c .before .before .nothing .ensures)))

@@ -6,137 +6,33 @@ use Rattle.table_words.proofs.WordLaws.{none-left}
 use Rattle.table_words.proofs.spellings.greek.Statement.{statement}
 use Rattle.table_words.proofs.spellings.greek.Tie as tie
 
-returns : tie.Need-returns
-unfolding words keywords constructors uoperators cps encode-all encode
-returns c = rw (c .before .match .keys1) (c .two .ensures)
-
-returns-2 : tie.Need-returns-2
-unfolding words keywords constructors uoperators cps encode-all encode
-returns-2 c = rw (c .before .match .keys2) (c .two2 .ensures)
-
-returns-3 : tie.Need-returns-3
-unfolding words keywords constructors uoperators cps encode-all encode
-returns-3 c = rw (c .before .match .keys3) (c .two3 .ensures)
-
-returns-4 : tie.Need-returns-4
-unfolding words keywords constructors uoperators cps encode-all encode
-returns-4 c = rw (c .before .match .keys4) (c .two4 .ensures)
-
-returns-5 : tie.Need-returns-5
-unfolding words keywords constructors uoperators cps encode-all encode
-returns-5 c = rw (c .before .match .keys5) (c .two5 .ensures)
-
-returns-6 : tie.Need-returns-6
-unfolding words keywords constructors uoperators cps encode-all encode
-returns-6 c = rw (c .before .match .keys6) (c .two6 .ensures)
-
-returns-7 : tie.Need-returns-7
-unfolding words keywords constructors uoperators cps encode-all encode
-returns-7 c = rw (c .before .match .keys7) (c .two7 .ensures)
-
-returns-8 : tie.Need-returns-8
-unfolding words keywords constructors uoperators cps encode-all encode
-returns-8 c = rw (c .before .match .keys8) (c .two8 .ensures)
-
-returns-9 : tie.Need-returns-9
-unfolding words keywords constructors uoperators cps encode-all encode
-returns-9 c = rw (c .before .match .keys9) (c .two9 .ensures)
-
-returns-10 : tie.Need-returns-10
-unfolding words keywords constructors uoperators cps encode-all encode
-returns-10 c = rw (c .before .match .keys10) (c .two10 .ensures)
-
-returns-11 : tie.Need-returns-11
-unfolding words keywords constructors uoperators cps encode-all encode
-returns-11 c = rw (c .before .match .keys11) (c .two11 .ensures)
-
-returns-12 : tie.Need-returns-12
-unfolding words keywords constructors uoperators cps encode-all encode
-returns-12 c = rw (c .before .match .keys12) (c .two12 .ensures)
-
-returns-13 : tie.Need-returns-13
-unfolding words keywords constructors uoperators cps encode-all encode
-returns-13 c = rw (c .before .match .keys13) (c .two13 .ensures)
-
-returns-14 : tie.Need-returns-14
-unfolding words keywords constructors uoperators cps encode-all encode
-returns-14 c = rw (c .before .match .keys14) (c .two14 .ensures)
-
-returns-15 : tie.Need-returns-15
-unfolding words keywords constructors uoperators cps encode-all encode
-returns-15 c = rw (c .before .match .keys15) (c .two15 .ensures)
-
-returns-16 : tie.Need-returns-16
-unfolding words keywords constructors uoperators cps encode-all encode
-returns-16 c = rw (c .before .match .keys16) (c .two16 .ensures)
-
-returns-17 : tie.Need-returns-17
-unfolding words keywords constructors uoperators cps encode-all encode
-returns-17 c = rw (c .before .match .keys17) (c .two17 .ensures)
-
-returns-18 : tie.Need-returns-18
-unfolding words keywords constructors uoperators cps encode-all encode
-returns-18 c = rw (c .before .match .keys18) (c .two18 .ensures)
-
-returns-19 : tie.Need-returns-19
-unfolding words keywords constructors uoperators cps encode-all encode
-returns-19 c = rw (c .before .match .keys19) (c .two19 .ensures)
-
-returns-20 : tie.Need-returns-20
-unfolding words keywords constructors uoperators cps encode-all encode
-returns-20 c = rw (c .before .match .keys20) (c .two20 .ensures)
-
-returns-21 : tie.Need-returns-21
-unfolding words keywords constructors uoperators cps encode-all encode
-returns-21 c = rw (c .before .match .keys21) (c .two21 .ensures)
-
-returns-22 : tie.Need-returns-22
-returns-22 c = absurd (none-left 65 21 _ (c .match .rest) (c .before .before .pre .0) (c .before .before .pre .1))
-
 pub greek-spec : {M : Type 1} → statement M
+unfolding words keywords constructors uoperators cps encode-all encode
 greek-spec =
     tie.close
     (tie.spec
-    (λ c κs. tt)
-    (λ c κs. tt)
-    (λ c κs. tt)
-    (λ c κs. tt)
-    (λ c κs. tt)
-    (λ c κs. tt)
-    (λ c κs. tt)
-    (λ c κs. tt)
-    (λ c κs. tt)
-    (λ c κs. tt)
-    (λ c κs. tt)
-    (λ c κs. tt)
-    (λ c κs. tt)
-    (λ c κs. tt)
-    (λ c κs. tt)
-    (λ c κs. tt)
-    (λ c κs. tt)
-    (λ c κs. tt)
-    (λ c κs. tt)
-    (λ c κs. tt)
-    (λ c κs. tt)
-    returns
-    returns-2
-    returns-3
-    returns-4
-    returns-5
-    returns-6
-    returns-7
-    returns-8
-    returns-9
-    returns-10
-    returns-11
-    returns-12
-    returns-13
-    returns-14
-    returns-15
-    returns-16
-    returns-17
-    returns-18
-    returns-19
-    returns-20
-    returns-21
-    returns-22)
+    (λ c κs. tt) (λ c κs. tt) (λ c κs. tt) (λ c κs. tt) (λ c κs. tt) (λ c κs. tt) (λ c κs. tt) (λ c κs. tt) (λ c κs. tt)
+    (λ c κs. tt) (λ c κs. tt) (λ c κs. tt) (λ c κs. tt) (λ c κs. tt) (λ c κs. tt) (λ c κs. tt) (λ c κs. tt) (λ c κs. tt)
+    (λ c κs. tt) (λ c κs. tt) (λ c κs. tt)
+    (λ c. rw (c .before .match .keys1) (c .two .ensures))
+    (λ c. rw (c .before .match .keys2) (c .two2 .ensures))
+    (λ c. rw (c .before .match .keys3) (c .two3 .ensures))
+    (λ c. rw (c .before .match .keys4) (c .two4 .ensures))
+    (λ c. rw (c .before .match .keys5) (c .two5 .ensures))
+    (λ c. rw (c .before .match .keys6) (c .two6 .ensures))
+    (λ c. rw (c .before .match .keys7) (c .two7 .ensures))
+    (λ c. rw (c .before .match .keys8) (c .two8 .ensures))
+    (λ c. rw (c .before .match .keys9) (c .two9 .ensures))
+    (λ c. rw (c .before .match .keys10) (c .two10 .ensures))
+    (λ c. rw (c .before .match .keys11) (c .two11 .ensures))
+    (λ c. rw (c .before .match .keys12) (c .two12 .ensures))
+    (λ c. rw (c .before .match .keys13) (c .two13 .ensures))
+    (λ c. rw (c .before .match .keys14) (c .two14 .ensures))
+    (λ c. rw (c .before .match .keys15) (c .two15 .ensures))
+    (λ c. rw (c .before .match .keys16) (c .two16 .ensures))
+    (λ c. rw (c .before .match .keys17) (c .two17 .ensures))
+    (λ c. rw (c .before .match .keys18) (c .two18 .ensures))
+    (λ c. rw (c .before .match .keys19) (c .two19 .ensures))
+    (λ c. rw (c .before .match .keys20) (c .two20 .ensures))
+    (λ c. rw (c .before .match .keys21) (c .two21 .ensures))
+    (λ c. absurd (none-left 65 21 _ (c .match .rest) (c .before .before .pre .0) (c .before .before .pre .1))))

@@ -4,9 +4,6 @@ use Rattle.utf8.proofs.Reading.{byte-within, byte-end}
 use Rattle.utf8.proofs.characters.byte.Statement.{statement}
 use Rattle.utf8.proofs.characters.byte.Tie as tie
 
-shared-slice-read-t6 : tie.Need-shared-slice-read-t6
-shared-slice-read-t6 c = search needs
-
 returns : tie.Need-returns
 returns c = search (byte-within, needs)
 
@@ -14,4 +11,4 @@ returns-2 : tie.Need-returns-2
 returns-2 c = search (byte-end, needs)
 
 pub byte-spec : {M : Type 1} → statement M
-byte-spec = tie.close (tie.spec shared-slice-read-t6 returns returns-2)
+byte-spec = tie.close (tie.spec (λ c. search needs) returns returns-2)

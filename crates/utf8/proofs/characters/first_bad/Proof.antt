@@ -13,7 +13,7 @@ use Rattle.definition.specs.declared.Sequence.{Sequence}
 use Rattle.definition.specs.declared.Sequence.the-variants.{Char}
 use Rattle.lemmas.proofs.Cases.{tests}
 use Rattle.utf8.proofs.Reading.{read-within, read-end, No-char}
-use Rattle.utf8.proofs.Character.{char-read, char-within}
+use Rattle.utf8.proofs.Character.{decoded-within}
 use Rattle.utf8.proofs.Star.{star-on, star-none}
 use Rattle.utf8.proofs.characters.first_bad.Statement.{statement}
 use Rattle.utf8.proofs.characters.first_bad.Tie as tie
@@ -45,36 +45,21 @@ loop-holds : tie.Need-loop-holds Inv-loop μ-loop
 unfolding first-bad
 loop-holds c = refl
 
-shared-slice-read-if1 : tie.Need-shared-slice-read-if1 Inv-loop μ-loop
-shared-slice-read-if1 c = search needs
-
-add-i : tie.Need-add-i Inv-loop μ-loop
-add-i c = search needs
-
-loop-less : tie.Need-loop-less Inv-loop μ-loop
-loop-less c = omega arith
-
 loop-again : tie.Need-loop-again Inv-loop μ-loop
 loop-again c =
     let d = c .before .before in
     over _ _ (ascii _ _ (d .loop-test .taken) (c .if1 .taken)) (d .before .loop .inv)
 
-sequence-at-requires : tie.Need-sequence-at-requires Inv-loop μ-loop
-sequence-at-requires c κs = tt
-
-enum-known-width : tie.Need-enum-known-width Inv-loop μ-loop
-enum-known-width c = search needs
-
 add-i-2 : tie.Need-add-i-2 Inv-loop μ-loop
 add-i-2 c =
     let d = c .before .before .before in
-    let w = char-within (char-read (sym (d .sequence-at .ensures) ∙ c .before .width .given .1)) in
+    let w = decoded-within _ _ (d .sequence-at .ensures) (c .before .width .given .1) in
     search (needs, w)
 
 loop-less-2 : tie.Need-loop-less-2 Inv-loop μ-loop
 loop-less-2 c =
     let d = c .before .before .before in
-    let w = char-within (char-read (sym (d .sequence-at .ensures) ∙ c .before .width .given .1)) in
+    let w = decoded-within _ _ (d .sequence-at .ensures) (c .before .width .given .1) in
     omega (arith, w)
 
 loop-again-2 : tie.Need-loop-again-2 Inv-loop μ-loop
@@ -82,16 +67,10 @@ loop-again-2 c =
     let d = c .before .before .before in
     over _ _ (sym (d .sequence-at .ensures) ∙ c .before .width .given .1) (d .before .before .before .before .loop .inv)
 
-enum-told : tie.Need-enum-told Inv-loop μ-loop
-enum-told c = search needs
-
 returns : tie.Need-returns Inv-loop μ-loop
 returns c =
     let d = c .before .before in
     here _ _ (sym (d .sequence-at .ensures) ∙ c .enum-told .given .1) tt (d .before .before .before .before .loop .inv)
-
-enum-told-2 : tie.Need-enum-told-2 Inv-loop μ-loop
-enum-told-2 c = search needs
 
 returns-2 : tie.Need-returns-2 Inv-loop μ-loop
 returns-2 c =
@@ -105,20 +84,5 @@ pub first-bad-spec : {M : Type 1} → statement M
 first-bad-spec =
     tie.close
     (tie.spec
-    Inv-loop
-    μ-loop
-    loop-holds
-    shared-slice-read-if1
-    add-i
-    loop-less
-    loop-again
-    sequence-at-requires
-    enum-known-width
-    add-i-2
-    loop-less-2
-    loop-again-2
-    enum-told
-    returns
-    enum-told-2
-    returns-2
-    returns-3)
+    Inv-loop μ-loop loop-holds (λ c. search needs) (λ c. search needs) (λ c. omega arith) loop-again (λ c κs. tt)
+    (λ c. search needs) add-i-2 loop-less-2 loop-again-2 (λ c. search needs) returns (λ c. search needs) returns-2 returns-3)

@@ -1,19 +1,13 @@
 -- `byte_pair` is the conjunction of two tests; where the first passes, the offset after i is at most the text's end.
 use mathlib.Core.Path.{sym, _∙_}
-use native.Mathlib.Omega.{arith}
+use Rattle.match_lit.proofs.ByteLaws.{has-inside}
 use borrow.Author.Needs.{needs}
-use Rattle.match_lit.proofs.ByteLaws.{has-inside}
-use Rattle.read_comment.proofs.byte_pair.Statement.{statement}
-use Rattle.read_comment.proofs.byte_pair.Tie as tie
-
-byte-is-requires : tie.Need-byte-is-requires
-byte-is-requires c κs = search needs
+use native.Mathlib.Omega.{arith}
+use Rattle.match_lit.proofs.byte_pair.Statement.{statement}
+use Rattle.match_lit.proofs.byte_pair.Tie as tie
 
 add-byte-is : tie.Need-add-byte-is
 add-byte-is c = omega (arith, has-inside _ _ _ (sym (c .before .byte-is .ensures) ∙ c .if1 .taken))
-
-byte-is-requires-2 : tie.Need-byte-is-requires-2
-byte-is-requires-2 c κs = search needs
 
 returns : tie.Need-returns
 returns c = rw (sym (c .before .before .byte-is .ensures) ∙ c .before .if1 .taken) (c .byte-is2 .ensures)
@@ -22,5 +16,4 @@ returns-2 : tie.Need-returns-2
 returns-2 c = rw (sym (c .before .byte-is .ensures) ∙ c .if1 .left)
 
 pub byte-pair-spec : {M : Type 1} → statement M
-byte-pair-spec =
-    tie.close (tie.spec byte-is-requires add-byte-is byte-is-requires-2 returns returns-2)
+byte-pair-spec = tie.close (tie.spec (λ c κs. search needs) add-byte-is (λ c κs. search needs) returns returns-2)
