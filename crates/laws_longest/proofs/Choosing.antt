@@ -28,7 +28,7 @@ use Rattle.definition.specs.declared.Sequence.the-variants.{Char}
 use Rattle.definition.specs.declared.Match.{Match}
 use Rattle.lemmas.proofs.Cases.{by-order}
 use Rattle.lemmas.proofs.Cases.{by-test, by-lt, both, either}
-use Rattle.lemmas.proofs.Each.{Numbered, no-more, _⨟_}
+use Rattle.lemmas.proofs.Each.{numbered-within, numbered-map}
 use Rattle.laws_progress.proofs.Walks.{char-passes}
 use Rattle.laws_longest.specs.LongestEnd.{choice-end, longest-end}
 use Rattle.laws_longest.proofs.Language.{Step, stop, At, at-permits, permits-at}
@@ -118,19 +118,6 @@ picks-right : {P : ℕ → Type 0} {i k : ℕ} {c : Choice} → ((e : ℕ) → P
 picks-right {P} {i} {c = c} ahead h =
     by-lt (Right P) i (c .end) (λ l. right-to (h .fits l .1) (h .top)) (λ l. right-nothing (λ e p. omega (arith, ahead e p, h .top e p)))
 
--- A fact of each numbered element of a list holds of one of them.
-numbered-in : {A : Type 0} {P : ℕ → A → Type 0} {n : ℕ} {l : List A} (d : A) → Numbered P n l → (k : ℕ) → k < length l → P (n + k) (getD l k d)
-numbered-in d no-more k h = absurd (omega arith)
-numbered-in {P = P} {n} {l = a ∷ l} d (p ⨟ ps) zero h = subst (λ (m : ℕ). P m a) (sym (add-zero n)) p
-numbered-in {P = P} {n} {l = a ∷ l} d (p ⨟ ps) (suc k) h =
-    let q : suc n + k ≡ n + suc k = omega arith in
-    subst (λ (m : ℕ). P m (getD l k d)) q (numbered-in d ps k (omega arith))
-
--- A fact of each numbered element gives another.
-numbered-map : {A : Type 0} {P Q : ℕ → A → Type 0} {n : ℕ} {l : List A} → ((k : ℕ) (a : A) → P k a → Q k a) → Numbered P n l → Numbered Q n l
-numbered-map g no-more = no-more
-numbered-map g (p ⨟ ps) = g _ _ p ⨟ numbered-map g ps
-
 module _ (s f : Bytes) (i : ℕ) where
   -- A number that is no place permits nothing.
   pub place-range : (k e : ℕ) → At s (pattern f k) i e → (1 ≤ k) × (k ≤ 50)
@@ -209,7 +196,7 @@ module _ (s f : Bytes) (i : ℕ) where
         inside : k < 50 → Picks (Has s f i (suc k)) i (suc k) (getD (places s f i) k (none-at i))
         inside l =
             let q : 1 + k ≡ suc k = omega arith in
-            this (subst (λ (x : ℕ). Place s f i x (getD (places s f i) k (none-at i))) q (numbered-in (none-at i) (all-places s f i n) k l))
+            this (subst (λ (x : ℕ). Place s f i x (getD (places s f i) k (none-at i))) q (numbered-within (none-at i) (all-places s f i n) k l))
 
         past : 50 ≤ k → Picks (Has s f i (suc k)) i (suc k) (getD (places s f i) k (none-at i))
         past l =

@@ -24,7 +24,8 @@ use Rattle.definition.specs.declared.Sequence.{Sequence}
 use Rattle.definition.specs.declared.Sequence.the-variants.{Char, Bad, End}
 use Rattle.definition.specs.declared.Match.{Match}
 use Rattle.definition.specs.declared.Match.the-variants.{To, Nothing}
-use Rattle.utf8.proofs.Character.{by-size, char-read}
+use Rattle.utf8.proofs.Character.{char-read}
+use Rattle.utf8.proofs.EncodingLaws.{encode-1}
 use Rattle.utf8.proofs.Star.{star-on, star-from, by-star}
 use Rattle.lemmas.proofs.Cases.{by-test, both, either}
 use Rattle.laws_progress.proofs.Characters.{ascii-at}
@@ -50,10 +51,6 @@ plain-scalars (c ∷ cs) p =
     )
 
 -- ---- bytes of ASCII
-
--- A character of ASCII is written as one byte, itself.
-encode-ascii : (c : ℕ) → c < 0x80 → encode c ≡ c ∷ []
-encode-ascii c = by-size (λ l. c < 0x80 → l ≡ c ∷ []) c (λ _ _. refl) (λ a _ h. absurd (omega arith)) (λ a _ h. absurd (omega arith)) (λ a h. absurd (omega arith))
 
 module _ (s : Bytes) where
   -- What the bytes from i on begin with is the byte at i, and what follows it is behind it.
@@ -81,7 +78,7 @@ module _ (s : Bytes) where
     step-byte t =
         let a = char-read (t .read) in
         let l = small (t .code) (t .passes) in
-        let q : encode (t .code) ≡ t .code ∷ [] = encode-ascii (t .code) l in
+        let q : encode (t .code) ≡ t .code ∷ [] = encode-1 (t .code) l in
         let h = first-byte i (t .code) (drop (i + t .width) s) (a .bytes ∙ ap (λ (x : Bytes). x ++ drop (i + t .width) s) q) in
         (byte-found p i (h .0) (ap p (h .1) ∙ t .passes), omega (arith, t .ends, a .width, ap length q))
 

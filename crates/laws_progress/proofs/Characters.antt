@@ -1,17 +1,18 @@
 -- What a character says of the bytes under it: how many they are, that they lie within the text, which of them begin a character,
 -- and that ASCII is one byte. Rests on the laws of UTF-8 (crate `utf8`).
 use Prim.Native.Nat.{ℕ, _+_, _≤_, _<_}
-use mathlib.Core.Path.{_≡_, _∙_}
+use mathlib.Core.Path.{_≡_, _∙_, ap}
 use native.Mathlib.Omega.{arith}
 use lib.Dec.{leb}
 use lib.ListN.{length, getD}
 use borrow.Author.Tests.{lt-ltb, leb-true}
 use Rattle.definition.specs.Basics.{Bytes}
-use Rattle.definition.specs.Utf8.{encode, sequence, sequence-at}
+use Rattle.definition.specs.Utf8.{sequence, sequence-at}
 use Rattle.definition.specs.Position.{is-continuation}
 use Rattle.definition.specs.declared.Sequence.the-variants.{Char}
-use Rattle.lemmas.proofs.Cases.{tests, both}
+use Rattle.lemmas.proofs.Cases.{both}
 use Rattle.utf8.proofs.Character.{char-read, char-within}
+use Rattle.utf8.proofs.EncodingLaws.{encode-1}
 use Rattle.utf8.proofs.Boundaries.{char-continues}
 use mathlib.Core.Bool.{true}
 
@@ -33,10 +34,6 @@ pub record Spelled (s : Bytes) (i c w : ℕ) : Type 0 where
   pub tails : (d : ℕ) → 0 < d → d < w → Tail (getD s (i + d) 0)
   pub ascii : c < 0x80 → w ≡ 1
 
-encode-ascii : (c : ℕ) → c < 0x80 → length (encode c) ≡ 1
-unfolding encode
-encode-ascii c h = simp tests
-
 pub char-at : {s : Bytes} {i c w : ℕ} → sequence-at s i ≡ Char c w → Spelled s i c w
 char-at {s} {i} {c} {w} e =
     let a = char-read e in
@@ -44,7 +41,7 @@ char-at {s} {i} {c} {w} e =
       some = char-within a .0;
       within = char-within a .1;
       tails = λ d h k. tail-of (getD s (i + d) 0) (char-continues a (i + d) (omega arith) (omega arith));
-      ascii = λ h. a .width ∙ encode-ascii c h;
+      ascii = λ h. a .width ∙ ap length (encode-1 c h);
     }
 
 -- a byte of ASCII is a character

@@ -10,12 +10,14 @@ use lib.Dec.{ltb, leb, eqb}
 use lib.ListN.{length, getD}
 use borrow.Author.Tests.{ltb-true, leb-true, eqb-true, lt-ltb, le-ltb}
 use Rattle.definition.specs.Basics.{Bytes, codes}
-use Rattle.definition.specs.Utf8.{encode, encode-all, tail-bits, three, three-bytes, sequence, sequence-at}
+use Rattle.definition.specs.Utf8.{encode, encode-all, three, three-bytes, sequence, sequence-at}
 use Rattle.definition.specs.Text.{byte-is}
 use Rattle.definition.specs.Tables.{cps}
 use Rattle.definition.specs.Matchers.{match-lit}
 use Rattle.definition.specs.declared.Sequence.the-variants.{Char}
 use Rattle.lemmas.proofs.Cases.{by-test, both, either}
+use Rattle.utf8.proofs.EncodingLaws.{encode-1, encode-3}
+use Rattle.utf8.proofs.Character.{tail-bits-of}
 use Rattle.laws_progress.proofs.Characters.{ascii-at}
 use Rattle.laws_progress.proofs.Walks.{Walk, here, on, Onward, onward-walk, char-onward, byte-passes, Passes}
 use Rattle.laws_progress.proofs.Ends.{Ends, ends-nothing, ends-to, ends-map}
@@ -41,14 +43,6 @@ abbrev pub table-begins : (ℕ → Bool) → List String → Bool
 table-begins p [] = true
 table-begins p (e ∷ es) = begins-with p (codes e) && table-begins p es
 
--- six bits are read as they are written
-bits-are : (y : ℕ) → y < 64 → tail-bits (0x80 + y) ≡ y
-unfolding tail-bits
-bits-are y h =
-    let h1 : 128 ≤ 0x80 + y = omega arith in
-    let h2 : 0x80 + y < 192 = omega arith in
-    simp (tests, tail-bits) (omega arith)
-
 -- three bytes that spell a character are read as it
 spelled-three : (c b : ℕ) → 0x800 ≤ c → c < 0xD800 → sequence (0xE0 + c / 4096) (0x80 + c / 64 % 64) (0x80 + c % 64) b ≡ Char c 3
 unfolding sequence three three-bytes
@@ -60,20 +54,7 @@ spelled-three c b h k =
     let y1 : c / 64 % 64 < 64 = omega arith in
     let z1 : c % 64 < 64 = omega arith in
     let e : (0xE0 + c / 4096 - 224) * 4096 + c / 64 % 64 * 64 + c % 64 ≡ c = omega arith in
-    simp (tests, bits-are, e, sequence, three, three-bytes)
-
--- how a character of one byte is written
-encode-one : (c : ℕ) → c < 0x80 → encode c ≡ c ∷ []
-unfolding encode
-encode-one c h = simp (tests, encode)
-
--- how one of three bytes is written
-encode-three : (c : ℕ) → 0x800 ≤ c → c < 0xD800 → encode c ≡ (0xE0 + c / 4096) ∷ (0x80 + c / 64 % 64) ∷ (0x80 + c % 64) ∷ []
-unfolding encode
-encode-three c h k =
-    let h1 : 0x80 ≤ c = omega arith in
-    let h2 : c < 0x10000 = omega arith in
-    simp (tests, encode)
+    simp (tests, tail-bits-of, e, sequence, three, three-bytes)
 
 -- the same where they stand in a text
 three-at : (s : Bytes) (i c : ℕ) → 0x800 ≤ c → c < 0xD800 → i < length s → getD s i 0 ≡ 0xE0 + c / 4096
@@ -97,11 +78,11 @@ module _ (s : Bytes) where
     lit-char c p l i rest = either (ltb c 0x80) _ (λ t. ascii (ltb-true _ _ t)) (λ t. let h = both _ _ t in wide (leb-true _ _ (h .0)) (ltb-true _ _ (h .1))) p
       where
         ascii : c < 0x80 → Ends P (match-lit s (encode c ++ l) i)
-        ascii h = rw (encode-one c h) (lit-byte c l i λ t. let b = byte-equal c i t in rest 1 (rw (b .1) at (ascii-at s i (b .0) (omega (arith, b .1)))))
+        ascii h = rw (encode-1 c h) (lit-byte c l i λ t. let b = byte-equal c i t in rest 1 (rw (b .1) at (ascii-at s i (b .0) (omega (arith, b .1)))))
 
         wide : 0x800 ≤ c → c < 0xD800 → Ends P (match-lit s (encode c ++ l) i)
         wide h k =
-            rw (encode-three c h k)
+            rw (encode-3 c h (omega arith))
             (lit-byte _ _ i λ t. lit-byte _ _ (i + 1) λ u. lit-byte _ _ (i + 1 + 1) λ v.
             let j : i + 1 + 1 ≡ i + 2 = omega arith in
             let n : i + 1 + 1 + 1 ≡ i + 3 = omega arith in

@@ -27,7 +27,7 @@ use Rattle.laws_run.specs.Going.{blob-from, lang-from}
 use Rattle.laws_run.proofs.Moving.{ended-stands}
 use Rattle.laws_run.proofs.Sizes.{part-size}
 use Rattle.laws_run.proofs.Paths.{walk-ahead, Path, stay, on, path-path, path-reads, Goes, goes-on, goes-line, going-falls, path-stands, goes-stands}
-use Rattle.laws_run.proofs.Forms.{Form, blob as a-blob, error, nothing}
+use Rattle.laws_run.proofs.Forms.{Form, blob as a-blob, error}
 
 module _ (s : Bytes) (from : ℕ) (h : Header) where
   -- a blob whose contents began at byte `from` ends at st: with a path to its end, or unterminated

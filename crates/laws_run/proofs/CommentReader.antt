@@ -11,7 +11,7 @@ use Rattle.definition.specs.Utf8.{encode, encode-all}
 use Rattle.definition.specs.Text.{byte-is, lexeme, run-end, after}
 use Rattle.definition.specs.Chars.{is-newline-char}
 use Rattle.definition.specs.Tables.{cps}
-use Rattle.definition.specs.Matchers.{only, one, match-newline}
+use Rattle.definition.specs.Matchers.{match-newline}
 use Rattle.definition.specs.State.{advance, deeper}
 use Rattle.definition.specs.Item.{Step}
 use Rattle.definition.specs.Comment.{comment-stop, terminate, comment-turn, comment, line-comment}
@@ -24,8 +24,8 @@ use Rattle.laws_progress.proofs.Matches.{newline-ends}
 use Rattle.laws_progress.proofs.Scans.{after-walks, after-onward, two-onward}
 use Rattle.laws_run.proofs.Moving.{closing-stands}
 use Rattle.laws_run.proofs.Sizes.{part-size, trim-size}
-use Rattle.laws_run.proofs.Paths.{walk-ahead, Path, stay, on, line, inner, path-path, path-reads, Goes, goes-on, goes-line, path-stands, goes-stands}
-use Rattle.laws_run.proofs.Forms.{Piece, Form, line as a-line, nothing}
+use Rattle.laws_run.proofs.Paths.{walk-ahead, Path, stay, on, inner, path-path, path-reads, Goes, goes-on, goes-line, path-stands, goes-stands}
+use Rattle.laws_run.proofs.Forms.{Piece, Form, line as a-line}
 
 -- in a comment whose text from here on has whole characters only
 abbrev pub InComment : Bytes → State → Type 0

@@ -2,9 +2,8 @@
 -- exactly where it is none of the places, and what is skipped, or gives an item that is no ERROR, has a byte or more. Rests on the law of
 -- the longest match (crate `laws_longest`), on what every turn says, and on the soundness of every state that a run comes to (Steps).
 use Prim.Native.Nat.{ℕ, _<_}
-use mathlib.Core.Path.{_≡_, refl, sym, ap, subst, _∙_}
+use mathlib.Core.Path.{_≡_, refl, ap, subst}
 use mathlib.Core.Bool.{true, false}
-use mathlib.Core.Logic.{_↔_}
 use native.Mathlib.Omega.{arith}
 use lib.Dec.{eqb}
 use lib.ListN.{length}
@@ -24,7 +23,8 @@ use Rattle.state.specs.Sound.{Stands}
 use Rattle.laws_longest.proofs.Law.{select-longest}
 use Rattle.laws_run.specs.Left.{awake}
 use Rattle.laws_run.proofs.Paths.{Goes}
-use Rattle.laws_run.proofs.Forms.{Form, Gives, ErrorIfLast, form-gives, form-last, form-number}
+use Rattle.laws_run.proofs.FormLaws.{form-gives, form-last, form-number}
+use Rattle.laws_run.proofs.Forms.{Form, Gives, ErrorIfLast}
 use Rattle.laws_run.proofs.Rules.{Says}
 use Rattle.laws_run.proofs.Steps.{turn-says, reached-stands}
 use Rattle.laws_run.proofs.Refusals.{run-stands}

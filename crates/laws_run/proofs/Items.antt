@@ -15,7 +15,7 @@ use Rattle.definition.specs.Run.{most-items}
 use Rattle.definition.specs.declared.State.{State}
 use Rattle.lemmas.proofs.Cases.{by-outcome, by-test}
 use Rattle.laws_run.specs.Left.{awake, left, Opened}
-use Rattle.laws_run.proofs.Forms.{awake-small}
+use Rattle.laws_run.proofs.FormLaws.{awake-small}
 use Rattle.laws_run.proofs.Steps.{step-kept}
 use Rattle.definition.specs.Items.{steps, steps-of, Steps}
 

@@ -14,7 +14,7 @@ use Rattle.state.specs.Sound.{Stands}
 use Rattle.laws_progress.proofs.Walks.{rest, Walk, Onward, walk-forward, walk-within, Clean, clean-walk}
 use Rattle.laws_run.specs.Left.{level}
 use Rattle.laws_run.specs.Budget.{most}
-use Rattle.laws_run.proofs.Moving.{stands-clean, stands-within, advance-stands, new-line-stands, deeper-stands}
+use Rattle.laws_run.proofs.Moving.{stands-clean, advance-stands, new-line-stands, deeper-stands}
 
 -- from i one moves on to j: no further than the text's end, and to a character where a character stands at i
 pub record Ahead (s : Bytes) (i j : ℕ) : Type 0 where

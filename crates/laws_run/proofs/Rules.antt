@@ -1,8 +1,8 @@
 -- The one walk over the rules: what each does with a choice is skipped, or gives an item of a form that is known (Forms). Rests on the
 -- forms of what the readers give, and on what `no-comment` leaves (crate `laws_progress`).
-use Prim.Native.Nat.{ℕ, _+_, _-_, _*_, _≤_, _<_}
+use Prim.Native.Nat.{ℕ, _+_, _-_, _≤_, _<_}
 use Prim.Native.String.{String}
-use mathlib.Core.Path.{_≡_, refl, subst}
+use mathlib.Core.Path.{_≡_, refl}
 use mathlib.Core.Bool.{true, not}
 use mathlib.Core.List.{List, [], _∷_, _++_}
 use mathlib.Core.Logic.{inl, inr}
@@ -23,17 +23,17 @@ use Rattle.definition.specs.Numbers.{clean-number, int-of-string, show}
 use Rattle.definition.specs.Rules.{Rule, REarly, RTripleBacktick, RLang, RSourceFile, RLine, RFileLine, RWhite, RNewline, RCharLit, RCharLitB, RBacktick, RKwOp, RSemiSemi, RIdent, RConstructor, RInt, RUInt8, RNumber, RReal, RBadNumber, RCommentStart, RInFStar, RLineComment, RString, RBacktickIdent, RPipeLeft, RPipeRight, RDotDot, ROpToken, RLt, RGt, ROp, RUOperator, RMixfix, RAny}
 use Rattle.definition.specs.State.{advance, open-comment}
 use Rattle.definition.specs.Item.{Step, lex-error}
-use Rattle.definition.specs.Token.{reserved-prefix, starts-with, finish, finish-entry, finish-word, blob-header, char-lit, kw-op, ident, number, uint8, bad-number, comment-start, gt, op, by-rule}
+use Rattle.definition.specs.Token.{reserved-prefix, starts-with, finish, finish-entry, finish-word, blob-header, char-lit, kw-op, ident, uint8, gt, op, by-rule}
 use Rattle.definition.specs.declared.Pos.{Pos}
 use Rattle.definition.specs.declared.State.{State}
 use Rattle.lemmas.proofs.Loops.{Leads}
 use Rattle.lemmas.proofs.Cases.{by-test, by-lt}
-use Rattle.laws_progress.proofs.Walks.{Walk, Onward, onward-walk, walk-past, walk-forward, walk-within, star-walks}
+use Rattle.laws_progress.proofs.Walks.{Onward, onward-walk, walk-past, walk-forward, star-walks}
 use Rattle.laws_progress.proofs.Cuts.{slash-goes-on, slash-at, no-comment-walks, no-comment-onward, no-comment-slash}
 use Rattle.laws_progress.proofs.Scans.{star-onward}
 use Rattle.laws_run.proofs.Sizes.{part-size, part-within, texts-small, find-small, clean-size, line-size}
-use Rattle.laws_run.proofs.Paths.{walk-ahead, Path, stay, on, Goes, goes-on, goes-line}
-use Rattle.laws_run.proofs.Forms.{Small, Plain, nothing, code-point, Form, token, opened, error}
+use Rattle.laws_run.proofs.Paths.{walk-ahead, stay, on, Goes, goes-on, goes-line}
+use Rattle.laws_run.proofs.Forms.{Small, nothing, code-point, Form, token, opened, error}
 use Rattle.laws_run.proofs.CommentReader.{comment-piece, line-comment-form}
 use Rattle.laws_run.proofs.StringReader.{string-form}
 use Rattle.laws_run.proofs.BlobReader.{blob-form, lang-form}

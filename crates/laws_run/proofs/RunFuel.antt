@@ -17,7 +17,7 @@ use Rattle.lemmas.proofs.Loops.{says, Leads, Falls, Any, loop-same, loop-unroll
 use Rattle.lemmas.proofs.Cases.{by-test, by-lt}
 use Rattle.laws_run.specs.Left.{awake, left, Opened}
 use Rattle.laws_run.specs.Going.{run-from}
-use Rattle.laws_run.proofs.Forms.{awake-small}
+use Rattle.laws_run.proofs.FormLaws.{awake-small}
 use Rattle.laws_run.proofs.Steps.{step-kept}
 
 module _ (s name f : Bytes) where

@@ -19,7 +19,7 @@ use Rattle.lemmas.proofs.Loops.{Leads, Falls, loop-gives}
 use Rattle.state.specs.Sound.{Stands}
 use Rattle.laws_run.specs.Left.{left}
 use Rattle.laws_run.specs.Budget.{budget}
-use Rattle.laws_run.proofs.Forms.{awake-small}
+use Rattle.laws_run.proofs.FormLaws.{awake-small}
 use Rattle.laws_run.proofs.Refusals.{run-accepted}
 use Rattle.laws_run.proofs.Steps.{step-stands, payload-bound, budget-small}
 use Rattle.definition.specs.Items.{records-of, payloads-of}

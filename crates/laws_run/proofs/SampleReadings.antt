@@ -31,7 +31,7 @@ use Rattle.definition.specs.declared.Choice.{Choice}
 use Rattle.definition.specs.declared.State.{State}
 use Rattle.definition.proofs.Samples.{accepted-in, in-accepted}
 use Rattle.lemmas.proofs.Cases.{both, both-true, by-order}
-use Rattle.utf8.proofs.EncodingLaws.{one-byte}
+use Rattle.utf8.proofs.EncodingLaws.{encode-1}
 use Rattle.utf8.proofs.Laws.{encode-all-injective}
 
 -- ---- words of ASCII
@@ -68,7 +68,7 @@ unfolding encode-all
 ascii-bytes [] h = refl
 ascii-bytes (a ∷ w) h =
     let p = both (ltb a 128) (ascii w) h in
-    rw (one-byte a (ltb-true a 128 (p .0))) (ap₂ (λ (b : ℕ) (v : List ℕ). b ∷ v) refl (ascii-bytes w (p .1)))
+    rw (encode-1 a (ltb-true a 128 (p .0))) (ap₂ (λ (b : ℕ) (v : List ℕ). b ∷ v) refl (ascii-bytes w (p .1)))
 
 module _ (r : Re) (s : Bytes) (i e : ℕ) (a : ascii s ≡ true) where
   -- a part that is permitted is accepted as a word,

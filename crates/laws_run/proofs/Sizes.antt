@@ -7,7 +7,7 @@ use mathlib.Core.List.{List, [], _∷_, map}
 use mathlib.Core.Option.{Option, some}
 use native.Mathlib.Omega.{arith}
 use lib.Dec.{leb, eqb}
-use lib.ListN.{length, getD, drop, length-append, length-drop, length-take}
+use lib.ListN.{length, drop, length-append, length-drop, length-take}
 
 use borrow.Author.Tests.{leb-true}
 use Rattle.definition.specs.Basics.{Bytes, ch, same}

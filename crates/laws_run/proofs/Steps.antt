@@ -9,7 +9,7 @@ use lib.Dec.{eqb}
 use lib.ListN.{length, getD}
 use lib.Seq.{length-slice}
 use borrow.Author.Tests.{eqb-true, eqb-false, ne-eqb}
-use Rattle.definition.specs.Basics.{Bytes, Turn, loop, fuel, ch, codes}
+use Rattle.definition.specs.Basics.{Bytes, loop, fuel, ch, codes}
 use Rattle.definition.specs.Utf8.{encode, encode-all}
 use Rattle.definition.specs.Text.{byte-is}
 use Rattle.definition.specs.Tables.{cps, op-tokens}
@@ -36,7 +36,8 @@ use Rattle.laws_run.proofs.Moving.{stands-within}
 use Rattle.laws_run.proofs.Paths.{Path, stay, path-path, path-reads, Goes, goes-stands, going-falls}
 use Rattle.laws_run.specs.Left.{Opened}
 use Rattle.laws_run.specs.Budget.{budget, longest-payload}
-use Rattle.laws_run.proofs.Forms.{error, Kept, budget-most, most-budget, piece-sound, piece-kept, form-kept, eof-kept, error-kept, path-kept}
+use Rattle.laws_run.proofs.FormLaws.{budget-most, most-budget, piece-sound, piece-kept, form-kept, eof-kept, error-kept, path-kept}
+use Rattle.laws_run.proofs.Forms.{error, Kept}
 use Rattle.laws_run.proofs.CommentReader.{comment-piece}
 use Rattle.laws_run.proofs.Rules.{Says, Asks, rule-says}
 

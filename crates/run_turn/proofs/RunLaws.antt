@@ -17,7 +17,7 @@ use Rattle.lemmas.proofs.Cases.{by-test, by-lt}
 use Rattle.lemmas.proofs.Loops.{says, Leads, Any}
 use Rattle.lemmas.proofs.Tails.{length-put}
 use Rattle.laws_run.specs.Left.{left}
-use Rattle.laws_run.proofs.Forms.{awake-small}
+use Rattle.laws_run.proofs.FormLaws.{awake-small}
 use Rattle.laws_run.specs.Going.{run-from}
 use Rattle.laws_run.proofs.RunFuel.{run-unroll, run-is}
 use Rattle.laws_run.proofs.Moving.{stands-within}

@@ -35,7 +35,7 @@ encode-size c = by-size (λ l. (1 ≤ length l) × (length l ≤ 4)) c (λ _. om
 -- ---- what is written is read
 
 -- A byte that continues a sequence gives its six bits back.
-tail-bits-of : (y : ℕ) → y < 64 → tail-bits (0x80 + y) ≡ y
+pub tail-bits-of : (y : ℕ) → y < 64 → tail-bits (0x80 + y) ≡ y
 unfolding tail-bits
 tail-bits-of y h =
     let h₁ : 0x80 ≤ 0x80 + y = omega arith in
