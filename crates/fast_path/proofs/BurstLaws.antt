@@ -1,8 +1,8 @@
 -- A run's tokens, one behind the other: what holds between two of them, and what stands ahead behind the last. Rests on the laws of
 -- actions, of tokens that were written and of a run that goes on.
 use Prim.Native.Nat.{ℕ, _+_, _*_, _≤_, _<_}
-use mathlib.Core.Path.{_≡_, refl, sym, subst, _∙_}
-use mathlib.Core.Bool.{Bool, true, false, not, false≢true}
+use mathlib.Core.Path.{_≡_, refl, sym, _∙_}
+use mathlib.Core.Bool.{Bool}
 use mathlib.Core.List.{List, []}
 use native.Mathlib.Omega.{arith}
 use lib.ListN.{length}
@@ -13,6 +13,7 @@ use Rattle.definition.specs.Comment.{comment}
 use Rattle.definition.specs.Item.{record-size}
 use Rattle.definition.specs.Token.{next-token, step}
 use Rattle.definition.specs.Run.{run-turn}
+use Rattle.definition.specs.declared.Choice.{Choice}
 use Rattle.definition.specs.declared.State.{State}
 use Rattle.laws_progress.proofs.Moves.{left}
 use Rattle.laws_progress.proofs.Fuel.{run-from}
@@ -23,12 +24,13 @@ use Rattle.reader.specs.declared.Cursor.{Cursor}
 use Rattle.reader.specs.Actions.{Rules, action-step}
 use Rattle.reader.specs.declared.actions.Action.{Action}
 use Rattle.reader.specs.declared.actions.Action.the-variants.{Token, Error, LineComment}
-use Rattle.rule_table.specs.Action.{rule-of, does}
-use Rattle.rules.specs.Acting.{Short, Long, Sorts}
-use Rattle.lookahead.specs.Sights.{Looks, Sees}
-use Rattle.lookahead.specs.declared.Sight.{Sight}
-use Rattle.lookahead.specs.declared.Ahead.the-variants.{Chosen, Ruled, Inside}
-use Rattle.lookahead.proofs.SightLaws.{action-chose, action-next}
+use Rattle.rule_table.specs.Rules.{action-does}
+use Rattle.rule_table.specs.declared.table.Rule.the-variants as rules
+use Rattle.rule_table.specs.declared.table.ActionRule.{ActionRule}
+use Rattle.rule_table.specs.declared.table.ReaderRule.{ReaderRule}
+use Rattle.lookahead.specs.Lookahead.{Looks, SeesRule}
+use Rattle.lookahead.specs.declared.NextItem.the-variants.{ByReader, ByAction, InComment}
+use Rattle.lookahead.proofs.LookaheadLaws.{action-chose, action-next}
 use Rattle.select.specs.Standing.{Lent}
 use Rattle.run_turn.specs.declared.Went.the-variants.{Wrote}
 use Rattle.run_turn.specs.Running.{writing, Ran, Between, StandsAhead}
@@ -36,18 +38,8 @@ use Rattle.run_turn.proofs.RunLaws.{between-any, between-on, ran-same}
 use Rattle.fast_path.specs.Puts.{Writes, Puts}
 use Rattle.fast_path.specs.declared.puts.Put.the-variants as put-variants
 use Rattle.fast_path.specs.Bursts.{BurstsTo}
+use Rattle.fast_path.specs.declared.Burst.{Burst}
 use Rattle.fast_path.proofs.RanLaws.{action-ran}
-
--- ---- rules
-
--- which sort of rule it is, by what was answered
-pub no-action : (n : ℕ) (b : Bool) → Sorts n b → not b ≡ true → Long n
-no-action n true h e = absurd (false≢true e)
-no-action n false h e = h
-
-pub a-action : (n : ℕ) (b : Bool) → Sorts n b → not b ≡ false → Short n
-a-action n true h e = h
-a-action n false h e = absurd (false≢true (sym e))
 
 -- ---- what stands ahead
 
@@ -61,39 +53,39 @@ unfolding step
 step-inside s name f st m = rw (step, eq-eqb (st .mode) 1 m)
 
 -- in a comment
-pub ahead-inside : {s name f : Bytes} {at : Cursor} → Standing s (at .st) (at .known) → (at .st .mode ≡ 0 → ⊥) → StandsAhead s name f at at Inside
+pub ahead-inside : {s name f : Bytes} {at : Cursor} → Standing s (at .st) (at .known) → (at .st .mode ≡ 0 → ⊥) → StandsAhead s name f at at InComment
 ahead-inside {s} {name} {f} {at} h n =
     let inside : (at .st .mode ≡ 2 → ⊥) → at .st .mode ≡ 1 = λ w. omega (arith, n, w, h .stands .sound .mode) in
     record { readable = λ w. (h, inside w); is = λ w. sym (step-inside s name f (at .st) (inside w)) }
 
-module _ {s f : Bytes} {at : Cursor} {r : Sight} (m : at .st .mode ≡ 0) (h : Sees s f at r) where
-  -- a choice whose rule gives no action
-  pub ahead-chosen : {n : ℕ} → n ≡ rule-of (r .choice .place) → Long n → (name : Bytes) → length name ≤ 4096 → StandsAhead s name f at (r .at) (Chosen (r .choice))
-  ahead-chosen q long name named = record {
-    readable = λ w. (h .faces, subst Long q long);
-    is = λ w. h .same name named ∙ sym (step-between s name f (at .st) m);
+-- a choice whose rule reads for itself
+pub ahead-reader : {s f : Bytes} {at here : Cursor} {c : Choice} {rule : ReaderRule} → at .st .mode ≡ 0 → SeesRule s f at here c (rules.Reader rule)
+    → (name : Bytes) → length name ≤ 4096 → StandsAhead s name f at here (ByReader c rule)
+ahead-reader {s} {f} {at} m h name named = record { readable = λ w. h .faces; is = λ w. h .same name named ∙ sym (step-between s name f (at .st) m) }
+
+-- an action on a choice, given for every name that is short enough
+abbrev pub Gives : Bytes → Cursor → Choice → ActionRule → Action → Type 0
+Gives s here c rule x = (name : Bytes) → length name ≤ 4096 → Rules s name here (c .end) (action-does s name rule (here .st) (c .place) (c .end) (c .word)) x
+
+module _ {s f : Bytes} {at here : Cursor} {c : Choice} {rule : ActionRule} (m : at .st .mode ≡ 0) (h : SeesRule s f at here c (rules.Action rule))
+    (accepted : class-check f ≡ 0) {x : Action} (gives : Gives s here c rule x) where
+  action-is-step : (name : Bytes) → length name ≤ 4096 → action-step s name f (here .st) (c .end) x ≡ step s name f (at .st)
+  action-is-step name named =
+      sym (action-next (h .faces) accepted name named (gives name named)) ∙ h .same name named ∙ sym (step-between s name f (at .st) m)
+
+  pub ahead-action : (name : Bytes) → length name ≤ 4096 → StandsAhead s name f at here (ByAction (c .end) x)
+  ahead-action name named = record {
+    readable = λ w. (action-chose (h .faces) accepted, gives name named .fits);
+    is = λ w. action-is-step name named;
   }
 
-  -- an action on a choice, given for every name that is short enough
-  module _ (accepted : class-check f ≡ 0) {n : ℕ} (q : n ≡ rule-of (r .choice .place)) (short : Short n) {x : Action}
-      (rules : (name g : Bytes) → length name ≤ 4096 → Rules s name (r .at) (r .choice .end) (does s name g n (r .at .st) (r .choice .place) (r .choice .end) (r .choice .word)) x) where
-    ruled-step : (name : Bytes) → length name ≤ 4096 → action-step s name f (r .at .st) (r .choice .end) x ≡ step s name f (at .st)
-    ruled-step name named =
-        sym (action-next (h .faces) accepted q short name named (rules name f named)) ∙ h .same name named ∙ sym (step-between s name f (at .st) m)
-
-    pub ahead-ruled : (name : Bytes) → length name ≤ 4096 → StandsAhead s name f at (r .at) (Ruled (r .choice .end) x)
-    ahead-ruled name named = record {
-      readable = λ w. (action-chose (h .faces) accepted q short, rules name f named .fits);
-      is = λ w. ruled-step name named;
-    }
-
-    -- a token that was written is a turn of the run
-    pub ruled-ran : (count used : ℕ) (rs : List ℕ) (ps : Bytes) (next : Cursor) (used′ : ℕ) (known : AsciiRun) (rs′ : List ℕ) (ps′ : Bytes)
-        → Puts s (r .at) x (record-size * count) used rs ps (put-variants.Token next used′ known) rs′ ps′ → (name : Bytes) → length name ≤ 4096
-        → Ran s (run-turn s name f (writing at count used rs ps)) count (at .st) (Wrote next used′) rs′ ps′
-    ruled-ran count used rs ps next used′ known rs′ ps′ w name named =
-        action-ran s name f at (r .at) count used rs ps (λ e. absurd (omega (arith, m, e))) (r .choice .end) x next used′ known rs′ ps′ (ruled-step name named)
-        (rules name f named .fits) w
+  -- a token that was written is a turn of the run
+  pub action-turn : (count used : ℕ) (rs : List ℕ) (ps : Bytes) (next : Cursor) (used′ : ℕ) (known : AsciiRun) (rs′ : List ℕ) (ps′ : Bytes)
+      → Puts s here x (record-size * count) used rs ps (put-variants.Token next used′ known) rs′ ps′ → (name : Bytes) → length name ≤ 4096
+      → Ran s (run-turn s name f (writing at count used rs ps)) count (at .st) (Wrote next used′) rs′ ps′
+  action-turn count used rs ps next used′ known rs′ ps′ w name named =
+      action-ran s name f at here count used rs ps (λ e. absurd (omega (arith, m, e))) (c .end) x next used′ known rs′ ps′ (action-is-step name named)
+      (gives name named .fits) w
 
 -- behind it reading goes on between comments, with a run of ASCII
 pub put-stays : (s : Bytes) (here : Cursor) (x : Action) (first used : ℕ) (rs : List ℕ) (ps : Bytes) (next : Cursor) (used′ : ℕ) (known : AsciiRun) (rs′ : List ℕ)
@@ -148,32 +140,32 @@ module _ {s f : Bytes} {start : Cursor} {begun filled : ℕ} {rs₀ : List ℕ} 
         b .1,
       )
 
-  -- behind the tokens stands a choice whose rule gives no action
-  pub bursting-chosen : {r : Sight} → Sees s f at r → {n : ℕ} → n ≡ rule-of (r .choice .place) → Long n
-      → BurstsTo s f start begun filled rs₀ ps₀ (record { at = at; here = r .at; ahead = Chosen (r .choice); count = count; used = used }) rs ps
-  bursting-chosen h q long = record { between = k .between; same = k .same; ahead = ahead-chosen (k .mode) h q long; less = k .less }
+  -- behind the tokens stands a choice whose rule reads for itself
+  pub bursting-reader : {here : Cursor} {c : Choice} {rule : ReaderRule} {b : Burst} → SeesRule s f at here c (rules.Reader rule)
+      → b ≡ record { at = at; here = here; ahead = ByReader c rule; count = count; used = used } → BurstsTo s f start begun filled rs₀ ps₀ b rs ps
+  bursting-reader h q = rw q (record { between = k .between; same = k .same; ahead = ahead-reader (k .mode) h; less = k .less })
 
-  module _ {r : Sight} (h : Sees s f at r) {n : ℕ} (q : n ≡ rule-of (r .choice .place)) (short : Short n) {x : Action}
-      (rules : (name g : Bytes) → length name ≤ 4096 → Rules s name (r .at) (r .choice .end) (does s name g n (r .at .st) (r .choice .place) (r .choice .end) (r .choice .word)) x) where
+  module _ {here : Cursor} {c : Choice} {rule : ActionRule} (h : SeesRule s f at here c (rules.Action rule)) {x : Action} (gives : Gives s here c rule x) where
     -- or an action that was left
-    pub bursting-left : {rs′ : List ℕ} {ps′ : Bytes} → (rs′ ≡ rs) × (ps′ ≡ ps)
-        → BurstsTo s f start begun filled rs₀ ps₀ (record { at = at; here = r .at; ahead = Ruled (r .choice .end) x; count = count; used = used }) rs′ ps′
-    bursting-left (a, b) = rw (a, b) (record { between = k .between; same = k .same; ahead = ahead-ruled (k .mode) h (k .between .accepted) q short rules; less = k .less })
+    pub bursting-left : {rs′ : List ℕ} {ps′ : Bytes} {b : Burst} → (rs′ ≡ rs) × (ps′ ≡ ps)
+        → b ≡ record { at = at; here = here; ahead = ByAction (c .end) x; count = count; used = used } → BurstsTo s f start begun filled rs₀ ps₀ b rs′ ps′
+    bursting-left (n, m) q = rw (n, m, q) (record { between = k .between; same = k .same; ahead = ahead-action (k .mode) h (k .between .accepted) gives; less = k .less })
 
     -- an action that was written is passed
     pub bursting-put : (next : Cursor) (used′ : ℕ) (known : AsciiRun) (rs′ : List ℕ) (ps′ : Bytes)
-        → Puts s (r .at) x (record-size * count) used rs ps (put-variants.Token next used′ known) rs′ ps′
+        → Puts s here x (record-size * count) used rs ps (put-variants.Token next used′ known) rs′ ps′
         → Bursting s f start begun filled rs₀ ps₀ next (count + 1) used′ known rs′ ps′ × (left s (next .st) < left s (at .st))
     bursting-put next used′ known rs′ ps′ w =
-        bursting-on (ruled-ran (k .mode) h (k .between .accepted) q short rules count used rs ps next used′ known rs′ ps′ w)
-        (put-stays s (r .at) x (record-size * count) used rs ps next used′ known rs′ ps′ (h .faces .between) w)
+        bursting-on (action-turn (k .mode) h (k .between .accepted) gives count used rs ps next used′ known rs′ ps′ w)
+        (put-stays s here x (record-size * count) used rs ps next used′ known rs′ ps′ (h .faces .between) w)
 
 -- in a comment, or where the reading has ended, nothing is passed
-pub bursts-nowhere : {s f : Bytes} {start : Cursor} {begun filled : ℕ} {rs : List ℕ} {ps : Bytes} → Between s [] f start begun filled rs ps → (start .st .mode ≡ 0 → ⊥)
-    → BurstsTo s f start begun filled rs ps (record { at = start; here = start; ahead = Inside; count = begun; used = filled }) rs ps
-bursts-nowhere b n = record {
+pub bursts-nowhere : {s f : Bytes} {start : Cursor} {begun filled : ℕ} {rs : List ℕ} {ps : Bytes} {b : Burst} → Between s [] f start begun filled rs ps
+    → (start .st .mode ≡ 0 → ⊥) → b ≡ record { at = start; here = start; ahead = InComment; count = begun; used = filled }
+    → BurstsTo s f start begun filled rs ps b rs ps
+bursts-nowhere b n q = rw q (record {
   between = b;
   same = λ name named. refl;
   ahead = λ name named. ahead-inside (record { stands = b .kept .stands; cached = b .cached }) n;
   less = omega arith;
-}
+})

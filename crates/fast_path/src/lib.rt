@@ -11,13 +11,13 @@ pub mod puts; // puts.rt: a token written from its action
 use crate::puts::Put;
 use crate::puts::put_action;
 use definition::RECORD;
-use lookahead::Ahead;
+use lookahead::Lookahead;
+use lookahead::NextItem;
 use lookahead::look;
 use position::columns::AsciiRun;
 use reader::Cursor;
-use rule_table::table::rule_of;
-use rules::gives_action;
 use rules::ruled;
+ghost use mathlib.Core.Path.{_≡_};
 ghost use mathlib.Core.List.{[]};
 ghost use Rattle.select.specs.Standing.{Lent};
 ghost use Rattle.run_turn.specs.Running.{Between};
@@ -27,9 +27,22 @@ ghost use Rattle.fast_path.specs.Bursts.{BurstsTo};
 pub struct Burst {
     pub at: Cursor,
     pub here: Cursor,
-    pub ahead: Ahead,
+    pub ahead: NextItem,
     pub count: usize,
     pub used: usize,
+}
+
+// The same, of its parts.
+fn stopped(at: Cursor, here: Cursor, ahead: NextItem, count: usize, used: usize) -> Burst
+    ensures { λ r. ⌜ r ≡ record { at = at; here = here; ahead = ahead; count = count; used = used } ⌝ }
+{
+    Burst {
+        at,
+        here,
+        ahead,
+        count,
+        used,
+    }
 }
 
 // Writes the tokens that stand one behind the other from `start` on, between comments, until something else stands ahead, a
@@ -50,64 +63,36 @@ pub fn write_tokens(
 {
     let st = start.st;
     if st.mode != 0 {
-        return Burst {
-            at: start,
-            here: start,
-            ahead: Ahead::Inside,
-            count: begun,
-            used: filled,
-        };
+        return stopped(start, start, NextItem::InComment, begun, filled);
     }
     let mut at = start;
     let mut count = begun;
     let mut used = filled;
     let mut plain = AsciiRun { from: 0, to: 0 };
     loop {
-        let sight = look(text, classes, ops, symbols, at);
-        let here = sight.at;
-        let choice = sight.choice;
-        let rule = rule_of(choice.place);
-        if !gives_action(rule) {
-            return Burst {
-                at: at,
-                here: here,
-                ahead: Ahead::Chosen(choice),
-                count: count,
-                used: used,
-            };
-        }
-        let action = ruled(text, here, choice, rule);
-        match put_action(
-            text,
-            here,
-            action,
-            RECORD * count,
-            used,
-            plain,
-            records,
-            bytes,
-        ) {
-            Put::Left => {
-                return Burst {
-                    at: at,
-                    here: here,
-                    ahead: Ahead::Ruled {
-                        end: choice.end,
-                        action: action,
-                    },
-                    count: count,
-                    used: used,
-                };
+        match look(text, classes, ops, symbols, at) {
+            Lookahead::Reader { here, choice, rule } => {
+                return stopped(at, here, NextItem::ByReader { choice, rule }, count, used);
             }
-            Put::Token {
-                next,
-                used: more,
-                plain: ascii,
-            } => {
-                at = next;
-                used = more;
-                plain = ascii;
-                count += 1;
+            Lookahead::Action { here, choice, rule } => {
+                let action = ruled(text, here, choice, rule);
+                let first = RECORD * count;
+                match put_action(text, here, action, first, used, plain, records, bytes) {
+                    Put::Left => {
+                        let end = choice.end;
+                        return stopped(at, here, NextItem::ByAction { end, action }, count, used);
+                    }
+                    Put::Token {
+                        next,
+                        used: more,
+                        plain: ascii,
+                    } => {
+                        at = next;
+                        used = more;
+                        plain = ascii;
+                        count += 1;
+                    }
+                }
             }
         }
     }

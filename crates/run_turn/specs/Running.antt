@@ -18,8 +18,8 @@ use Rattle.laws_run.specs.Budget.{budget}
 use Rattle.reader.specs.declared.Cursor.{Cursor}
 use Rattle.reader.specs.declared.Read.{Read}
 use Rattle.reader.specs.Described.{bytes-of, length-of, Inside, Known-at}
-use Rattle.lookahead.specs.Sights.{Readable, ahead-step}
-use Rattle.lookahead.specs.declared.Ahead.{Ahead}
+use Rattle.lookahead.specs.Lookahead.{Readable, ahead-step}
+use Rattle.lookahead.specs.declared.NextItem.{NextItem}
 use Rattle.run_turn.specs.declared.Went.{Went}
 use Rattle.run_turn.specs.declared.Went.the-variants.{Stop, Wrote}
 
@@ -53,7 +53,7 @@ pub record Between (s name f : Bytes) (at : Cursor) (count used : ℕ) (rs : Lis
   pub cached : Known-at s (at .st) (at .known)
 
 -- what stands ahead of the reader at `at` is `ahead`, behind white space at `here`, unless the reading has ended
-pub record StandsAhead (s name f : Bytes) (at here : Cursor) (ahead : Ahead) : Type 0 where
+pub record StandsAhead (s name f : Bytes) (at here : Cursor) (ahead : NextItem) : Type 0 where
   pub readable : (at .st .mode ≡ 2 → ⊥) → Readable s name f here ahead
   pub is : (at .st .mode ≡ 2 → ⊥) → ahead-step s name f (here .st) ahead ≡ step s name f (at .st)
 

@@ -5,7 +5,7 @@
 // Assumed: nothing but what each function's `requires` says: the run was not refused, it stands between two items
 // (`Between`), what stands ahead was found there (`StandsAhead`), and an item that is written fits (`ItemFits`).
 use definition::RECORD;
-use lookahead::Ahead;
+use lookahead::NextItem;
 use payload_write::write;
 use reader::Cursor;
 use reader::Read;
@@ -53,7 +53,7 @@ pub fn turn(
     classes: &[u8],
     at: Cursor,
     here: Cursor,
-    ahead: Ahead,
+    ahead: NextItem,
     count: usize,
     used: usize,
     records: &mut [u32],
