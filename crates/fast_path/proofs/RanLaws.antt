@@ -21,11 +21,11 @@ use Rattle.reader.specs.Actions.{Fits, action-step}
 use Rattle.reader.specs.declared.actions.Action.{Action}
 use Rattle.reader.specs.declared.actions.Action.the-variants.{Token, Error, LineComment}
 use Rattle.reader.proofs.ActionBuilding.{span-reads}
-use Rattle.run_turn.specs.declared.Went.the-variants.{Wrote}
+use Rattle.run_turn.specs.declared.TurnResult.the-variants.{Wrote}
 use Rattle.run_turn.specs.Running.{writing, Ran}
 use Rattle.run_turn.proofs.TurnLaws.{wrote-ran}
 use Rattle.fast_path.specs.Puts.{Written, Puts}
-use Rattle.fast_path.specs.declared.puts.Put.the-variants as put-variants
+use Rattle.fast_path.specs.declared.puts.PutResult.the-variants as put-variants
 
 module _ (s name f : Bytes) (at here : Cursor) (count used : ℕ) (rs : List ℕ) (ps : Bytes) (awake : at .st .mode ≡ 2 → ⊥) (e : ℕ) where
   token-ran : {k i to : ℕ} {p : Payload} {next : Cursor} {used′ : ℕ} {known : AsciiRun} {rs′ : List ℕ} {ps′ : Bytes}

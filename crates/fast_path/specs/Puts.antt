@@ -20,8 +20,8 @@ use Rattle.record.specs.Numbers.{plain-item}
 use Rattle.reader.specs.Actions.{Spans}
 use Rattle.reader.specs.declared.actions.Action.{Action}
 use Rattle.reader.specs.declared.actions.Action.the-variants.{Token, Error, LineComment}
-use Rattle.fast_path.specs.declared.puts.Put.{Put}
-use Rattle.fast_path.specs.declared.puts.Put.the-variants as put-variants
+use Rattle.fast_path.specs.declared.puts.PutResult.{PutResult}
+use Rattle.fast_path.specs.declared.puts.PutResult.the-variants as put-variants
 
 -- a token's record and its short payload of `size` bytes fit behind what is written
 pub record PairFits (s : Bytes) (p : Payload) (size first used : ℕ) (rs : List ℕ) (ps : Bytes) : Type 0 where
@@ -67,7 +67,7 @@ pub record Written (s : Bytes) (here : Cursor) (k i e : ℕ) (p : Payload) (firs
   pub plain : Plain s known
 
 -- what became of an action: where it was left both buffers are what they were
-abbrev pub Puts : Bytes → Cursor → Action → ℕ → ℕ → List ℕ → Bytes → Put → List ℕ → Bytes → Type 0
+abbrev pub Puts : Bytes → Cursor → Action → ℕ → ℕ → List ℕ → Bytes → PutResult → List ℕ → Bytes → Type 0
 Puts s here x first used rs ps put-variants.Left rs′ ps′ = (rs′ ≡ rs) × (ps′ ≡ ps)
 Puts s here (Token k i e p) first used rs ps (put-variants.Token next used′ plain) rs′ ps′ = Written s here k i e p first used rs ps next used′ plain rs′ ps′
 Puts s here (Error n p) first used rs ps (put-variants.Token next used′ plain) rs′ ps′ = ⊥

@@ -3,12 +3,12 @@
 //
 // Proved: behind the tokens what is still to come of the run is what was to come before them, whatever the file's name is (no
 // token that is written here has it in its payload: the contract asks with the empty name and promises for every one), and
-// what stands ahead there is said (`BurstsTo`). That as many tokens as possible are written is not promised: what is left, a turn writes.
+// what stands ahead there is said (`WritesTokens`). That as many tokens as possible are written is not promised: what is left, a turn writes.
 // Assumed: nothing but what `write_tokens`'s `requires` says: the run was not refused and stands between two items, and the
 // tables of operator and of symbol characters are lent.
 pub mod puts; // puts.rt: a token written from its action
 
-use crate::puts::Put;
+use crate::puts::PutResult;
 use crate::puts::put_action;
 use definition::RECORD;
 use lookahead::Lookahead;
@@ -21,10 +21,10 @@ ghost use mathlib.Core.Path.{_≡_};
 ghost use mathlib.Core.List.{[]};
 ghost use Rattle.select.specs.Standing.{Lent};
 ghost use Rattle.run_turn.specs.Running.{Between};
-ghost use Rattle.fast_path.specs.Bursts.{BurstsTo};
+ghost use Rattle.fast_path.specs.TokensWritten.{WritesTokens};
 
 // Behind a run's tokens: where the run stands, and what stands ahead, behind white space at `here`.
-pub struct Burst {
+pub struct TokensWritten {
     pub at: Cursor,
     pub here: Cursor,
     pub ahead: NextItem,
@@ -33,10 +33,10 @@ pub struct Burst {
 }
 
 // The same, of its parts.
-fn stopped(at: Cursor, here: Cursor, ahead: NextItem, count: usize, used: usize) -> Burst
+fn stopped(at: Cursor, here: Cursor, ahead: NextItem, count: usize, used: usize) -> TokensWritten
     ensures { λ r. ⌜ r ≡ record { at = at; here = here; ahead = ahead; count = count; used = used } ⌝ }
 {
-    Burst {
+    TokensWritten {
         at,
         here,
         ahead,
@@ -57,9 +57,9 @@ pub fn write_tokens(
     filled: usize,
     records: &mut [u32],
     bytes: &mut [u8],
-) -> Burst
+) -> TokensWritten
     requires { ⌜ Between (now text) [] (now classes) start begun filled (now records) (now bytes) × Lent (now classes) (now ops) (now symbols) ⌝ }
-    ensures { λ r. ⌜ BurstsTo (now (text .entry)) (now (classes .entry)) start begun filled (now (records .entry)) (now (bytes .entry)) r (now (records .exit)) (now (bytes .exit)) ⌝ }
+    ensures { λ r. ⌜ WritesTokens (now (text .entry)) (now (classes .entry)) start begun filled (now (records .entry)) (now (bytes .entry)) r (now (records .exit)) (now (bytes .exit)) ⌝ }
 {
     let st = start.st;
     if st.mode != 0 {
@@ -78,11 +78,11 @@ pub fn write_tokens(
                 let action = ruled(text, here, choice, rule);
                 let first = RECORD * count;
                 match put_action(text, here, action, first, used, plain, records, bytes) {
-                    Put::Left => {
+                    PutResult::Left => {
                         let end = choice.end;
                         return stopped(at, here, NextItem::ByAction { end, action }, count, used);
                     }
-                    Put::Token {
+                    PutResult::Token {
                         next,
                         used: more,
                         plain: ascii,

@@ -28,7 +28,7 @@ ghost use Rattle.fast_path.specs.Puts.{PairFits, TokenAsks, ActionAsks, 
 
 // What became of an action: it was left, or it was a token and is written, behind which reading goes on with so many payload
 // bytes used and with a part of the text that is known to be ASCII.
-pub enum Put {
+pub enum PutResult {
     Left,
     Token {
         next: Cursor,
@@ -79,18 +79,18 @@ fn put_token(
     plain: AsciiRun,
     records: &mut [u32],
     bytes: &mut [u8],
-) -> Put
+) -> PutResult
     requires { ⌜ TokenAsks (now text) here from to payload first used plain (now records) (now bytes) ⌝ }
     ensures { λ r. ⌜ Puts (now (text .entry)) here (Token kind from to payload) first used (now (records .entry)) (now (bytes .entry)) r (now (records .exit)) (now (bytes .exit)) ⌝ }
 {
     if records.len() - first < RECORD {
-        return Put::Left;
+        return PutResult::Left;
     }
     let Match::To(size) = short_length(payload) else {
-        return Put::Left;
+        return PutResult::Left;
     };
     if bytes.len() - used < size {
-        return Put::Left;
+        return PutResult::Left;
     }
     let st = here.st;
     let known = here.known;
@@ -121,7 +121,7 @@ fn put_token(
         off: to as u32,
         col: cols.end,
     };
-    Put::Token {
+    PutResult::Token {
         next: Cursor {
             st: st.advance(to as u32),
             known: behind,
@@ -141,7 +141,7 @@ pub fn put_action(
     plain: AsciiRun,
     records: &mut [u32],
     bytes: &mut [u8],
-) -> Put
+) -> PutResult
     requires { ⌜ ActionAsks (now text) here action first used plain (now records) (now bytes) ⌝ }
     ensures { λ r. ⌜ Puts (now (text .entry)) here action first used (now (records .entry)) (now (bytes .entry)) r (now (records .exit)) (now (bytes .exit)) ⌝ }
 {
@@ -152,7 +152,7 @@ pub fn put_action(
         payload,
     } = action
     else {
-        return Put::Left;
+        return PutResult::Left;
     };
     put_token(
         text,

@@ -16,7 +16,7 @@ use Rattle.laws_progress.proofs.Tokens.{token-unroll}
 use Rattle.reader.specs.Described.{Turns}
 use Rattle.reader.specs.Cursors.{moved, next-line}
 use Rattle.reader.specs.declared.Cursor.{Cursor}
-use Rattle.reader.specs.declared.Turned.the-variants.{Again}
+use Rattle.reader.specs.declared.ReadResult.the-variants.{Again}
 use Rattle.reader.specs.Actions.{Chose, Rules, action-step}
 use Rattle.reader.specs.declared.actions.Action.{Action}
 use Rattle.rule_table.specs.Rules.{rule-of, action-does, does}

@@ -18,8 +18,8 @@ use Rattle.laws_run.proofs.Steps.{token-turn-stands}
 use Rattle.reader.specs.Described.{Turns}
 use Rattle.reader.specs.Standing.{Standing}
 use Rattle.reader.specs.declared.Cursor.{Cursor}
-use Rattle.reader.specs.declared.Turned.{Turned}
-use Rattle.reader.specs.declared.Turned.the-variants.{Again}
+use Rattle.reader.specs.declared.ReadResult.{ReadResult}
+use Rattle.reader.specs.declared.ReadResult.the-variants.{Again}
 use Rattle.reader.proofs.Turning.{turned-again}
 use Rattle.lookahead.specs.White.{Between, Passes, Behind}
 use Rattle.lookahead.specs.declared.white_space.Passed.the-variants.{On}
@@ -30,7 +30,7 @@ unfolding token-turn
 turn-is s name f st c h q = rw (token-turn, lt-leb _ _ h, ← q)
 
 -- so what is done with the choice is what is done in the turn
-pub turn-acts : (s name f : Bytes) (st : State) (c : Choice) (t : Turned) → st .offset < length s → c ≡ select s f (st .offset) → Turns s name f (act s name f st c) t → Turns s name f (token-turn s name f st) t
+pub turn-acts : (s name f : Bytes) (st : State) (c : Choice) (t : ReadResult) → st .offset < length s → c ≡ select s f (st .offset) → Turns s name f (act s name f st c) t → Turns s name f (token-turn s name f st) t
 turn-acts s name f st c t h q d = rw (turn-is s name f st c h q) d
 
 -- a turn stands where it goes on, and has read something

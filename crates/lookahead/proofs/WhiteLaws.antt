@@ -25,7 +25,7 @@ use Rattle.star.proofs.WhiteLaws.{small-blank, ascii-white}
 use Rattle.select.proofs.First.{white-path, line-path}
 use Rattle.reader.specs.Cursors.{moved, next-line}
 use Rattle.reader.specs.declared.Cursor.{Cursor}
-use Rattle.reader.specs.declared.Turned.the-variants.{Again}
+use Rattle.reader.specs.declared.ReadResult.the-variants.{Again}
 use Rattle.reader.specs.Actions.{Chose}
 use Rattle.rule_table.specs.Rules.{rule-list}
 use Rattle.rule_table.specs.declared.table.Rule.the-variants.{White, Newline}

@@ -9,7 +9,7 @@ use Rattle.definition.specs.declared.State.{State}
 use Rattle.reader.specs.Described.{Turns}
 use Rattle.reader.specs.Standing.{Standing}
 use Rattle.reader.specs.declared.Cursor.{Cursor}
-use Rattle.reader.specs.declared.Turned.the-variants.{Again}
+use Rattle.reader.specs.declared.ReadResult.the-variants.{Again}
 use Rattle.lookahead.specs.declared.white_space.Passed.{Passed}
 use Rattle.lookahead.specs.declared.white_space.Passed.the-variants.{On, Nothing}
 

@@ -15,7 +15,7 @@ use position::pos_of;
 use reader::Cursor;
 use reader::Payload;
 use reader::Read;
-use reader::Turned;
+use reader::ReadResult;
 use reader::cursors::moved;
 use reader::cursors::next_line;
 use reader::span;
@@ -160,23 +160,23 @@ fn closed(text: &[u8], header: Header, lang: bool, from: usize, at: Cursor, e: u
 }
 
 // One turn of the reading.
-fn turn(text: &[u8], name: &[u8], header: Header, lang: bool, from: usize, at: Cursor) -> Turned
+fn turn(text: &[u8], name: &[u8], header: Header, lang: bool, from: usize, at: Cursor) -> ReadResult
     requires { ⌜ InBlob (now text) header from at ⌝ }
     ensures { λ r. ⌜ ((f : Bytes) → Turns (now (text .entry)) (now (name .entry)) f (contents-turn (now (text .entry)) lang from (header-of (now (text .entry)) header) (at .st)) r) ⌝ }
 {
     let st = at.st;
     let known = at.known;
     match move_at(text, lang, st.offset as usize) {
-        Move::Close(e) => Turned::Done(closed(text, header, lang, from, at, e)),
-        Move::Open => Turned::Done(error_here(
+        Move::Close(e) => ReadResult::Done(closed(text, header, lang, from, at, e)),
+        Move::Open => ReadResult::Done(error_here(
             text,
             name,
             st,
             known,
             definition::errors::UNTERMINATED_EXTENSION_SYNTAX,
         )),
-        Move::Line(e) => Turned::Again(next_line(at, e)),
-        Move::On(e) => Turned::Again(moved(at, e)),
+        Move::Line(e) => ReadResult::Again(next_line(at, e)),
+        Move::On(e) => ReadResult::Again(moved(at, e)),
     }
 }
 
@@ -190,10 +190,10 @@ fn read_contents(text: &[u8], name: &[u8], header: Header, lang: bool, at: Curso
     let mut here = at;
     loop {
         match turn(text, name, header, lang, from, here) {
-            Turned::Done(r) => {
+            ReadResult::Done(r) => {
                 return r;
             }
-            Turned::Again(next) => {
+            ReadResult::Again(next) => {
                 here = next;
             }
         }

@@ -75,7 +75,7 @@ pub struct Cursor {
 }
 
 // What a turn of a reader answers: what it has read, or where it goes on.
-pub enum Turned {
+pub enum ReadResult {
     Done(Read),
     Again(Cursor),
 }

@@ -21,7 +21,7 @@ use Rattle.reader.specs.Described.{Known-at, Turns}
 use Rattle.reader.specs.Cursors.{moved, next-line}
 use Rattle.reader.specs.Standing.{Standing}
 use Rattle.reader.specs.declared.Cursor.{Cursor}
-use Rattle.reader.specs.declared.Turned.{Turned}
+use Rattle.reader.specs.declared.ReadResult.{ReadResult}
 use Rattle.reader.proofs.Standing.{known-kept, known-line}
 use Rattle.laws_run.proofs.Moving.{stands-within}
 use Rattle.reader.specs.Actions.{Chose, Rules, action-step}
@@ -71,7 +71,7 @@ module _ (s name f : Bytes) (st : State) where
       by k = does s name f (rule-of k) st k (c .end) (c .word)
 
   -- so whoever does what the rule of a choice does has done what is done with the choice
-  pub act-turns : (c : Choice) (r : Rule) (t : Turned) → c .place < 51 → rule-of (c .place) ≡ r
+  pub act-turns : (c : Choice) (r : Rule) (t : ReadResult) → c .place < 51 → rule-of (c .place) ≡ r
       → Turns s name f (does s name f r st (c .place) (c .end) (c .word)) t → Turns s name f (act s name f st c) t
   act-turns c r t h q d =
       subst (λ (x : Token-turn). Turns s name f x t)
@@ -118,7 +118,7 @@ module _ {s name f : Bytes} {at : Cursor} {c : Choice} (h : Acts s name f at c) 
     pub chose : needs-place r ≡ true → Chose s at (c .end)
     chose z = some-chosen f (h .standing) (h .between) (h .chosen) q z
 
-    pub by-rule : (t : Turned) → Turns s name f (does s name f r (at .st) (c .place) (c .end) (c .word)) t → Turns s name f (act s name f (at .st) c) t
+    pub by-rule : (t : ReadResult) → Turns s name f (does s name f r (at .st) (c .place) (c .end) (c .word)) t → Turns s name f (act s name f (at .st) c) t
     by-rule t d = act-turns s name f (at .st) c r t (tabled .place) q d
 
   -- the step that an action stands for is what is done

@@ -41,7 +41,7 @@ ghost use lib.ListN.{length};
 ghost use Rattle.definition.specs.Basics.{Bytes};
 ghost use Rattle.definition.specs.Token.{act};
 ghost use Rattle.reader.specs.Described.{Turns};
-ghost use Rattle.reader.specs.declared.Turned.the-variants.{Done};
+ghost use Rattle.reader.specs.declared.ReadResult.the-variants.{Done};
 ghost use Rattle.reader.specs.Actions.{Chose, Rules};
 ghost use Rattle.rule_table.specs.Tabled.{Tabled};
 ghost use Rattle.rule_table.specs.Rules.{rule-of, action-does};

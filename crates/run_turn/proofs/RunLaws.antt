@@ -26,7 +26,7 @@ use Rattle.reader.specs.declared.Cursor.{Cursor}
 use Rattle.reader.specs.Described.{Known-at}
 use Rattle.laws_run.proofs.Items.{step-left}
 use Rattle.laws_run.proofs.Buffers.{words-size}
-use Rattle.run_turn.specs.declared.Went.the-variants.{Stop, Wrote}
+use Rattle.run_turn.specs.declared.TurnResult.the-variants.{Stop, Wrote}
 use Rattle.run_turn.specs.Running.{writing, answered, Ran, Kept, Between, Going}
 
 module _ (s name f : Bytes) (named : length name ≤ 4096) where

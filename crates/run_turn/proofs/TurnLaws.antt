@@ -17,7 +17,7 @@ use Rattle.reader.specs.declared.Payload.{Payload}
 use Rattle.reader.specs.declared.Payload.the-variants.{Part, Text, Greater, Name, Line, FileLine, Literal, Piece, Blob}
 use Rattle.reader.specs.Described.{bytes-of, length-of, Listed, Inside, Measurable, Reads, Known-at}
 use Rattle.laws_run.proofs.Payloads.{payload-bound, budget-small}
-use Rattle.run_turn.specs.declared.Went.the-variants.{Wrote}
+use Rattle.run_turn.specs.declared.TurnResult.the-variants.{Wrote}
 use Rattle.lookahead.specs.Lookahead.{ahead-step}
 use Rattle.lookahead.specs.declared.NextItem.{NextItem}
 use Rattle.run_turn.specs.Running.{writing, Ran, Between, StandsAhead, ItemFits}

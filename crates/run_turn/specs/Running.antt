@@ -20,8 +20,8 @@ use Rattle.reader.specs.declared.Read.{Read}
 use Rattle.reader.specs.Described.{bytes-of, length-of, Inside, Known-at}
 use Rattle.lookahead.specs.Lookahead.{Readable, ahead-step}
 use Rattle.lookahead.specs.declared.NextItem.{NextItem}
-use Rattle.run_turn.specs.declared.Went.{Went}
-use Rattle.run_turn.specs.declared.Went.the-variants.{Stop, Wrote}
+use Rattle.run_turn.specs.declared.TurnResult.{TurnResult}
+use Rattle.run_turn.specs.declared.TurnResult.the-variants.{Stop, Wrote}
 
 -- the run, as the definition has it
 abbrev pub writing : Cursor → ℕ → ℕ → List ℕ → Bytes → Writing
@@ -32,7 +32,7 @@ abbrev pub answered : ℕ → ℕ → State → RunAnswer
 answered stop count st = record { refusal = 0; offset = 0; stop = stop; count = count; state = st }
 
 -- what a turn of the definition says is what the code did: it stopped, or it wrote an item and stands behind it
-abbrev pub Ran : Bytes → Turn Writing Outcome → ℕ → State → Went → List ℕ → Bytes → Type 0
+abbrev pub Ran : Bytes → Turn Writing Outcome → ℕ → State → TurnResult → List ℕ → Bytes → Type 0
 Ran s t count st (Stop n) rs ps = t ≡ done (answered n count st, rs, ps)
 Ran s t count st (Wrote next used) rs ps = (t ≡ again (writing next (count + 1) used rs ps)) × Known-at s (next .st) (next .known)
 

@@ -20,7 +20,7 @@ ghost use Rattle.run_turn.specs.Running.{writing, Ran, Between, StandsAh
 
 // What a turn of a run did: it stopped, for document 01's reason, or it wrote an item, behind which reading goes on with so
 // many payload bytes used.
-pub enum Went {
+pub enum TurnResult {
     Stop(u32),
     Wrote { next: Cursor, used: usize },
 }
@@ -58,28 +58,28 @@ pub fn turn(
     used: usize,
     records: &mut [u32],
     payload: &mut [u8],
-) -> Went
+) -> TurnResult
     requires { ⌜ Between (now text) (now name) (now classes) at count used (now records) (now payload) × StandsAhead (now text) (now name) (now classes) at here ahead ⌝ }
     ensures { λ r. ⌜ Ran (now (text .entry)) (run-turn (now (text .entry)) (now (name .entry)) (now (classes .entry)) (writing at count used (now (records .entry)) (now (payload .entry)))) count (at .st) r (now (records .exit)) (now (payload .exit)) ⌝ }
 {
     let st = at.st;
     if st.mode == 2 {
-        return Went::Stop(0);
+        return TurnResult::Stop(0);
     }
     let first = RECORD * count;
     if records.len() - first < RECORD {
-        return Went::Stop(1);
+        return TurnResult::Stop(1);
     }
     let r = read(text, name, classes, here, ahead);
     let bytes = r.payload;
     let size = length_of(name, bytes);
     if payload.len() - used < size {
-        return Went::Stop(2);
+        return TurnResult::Stop(2);
     }
     write_item(text, name, classes, r, first, used, records, payload);
     let next = r.next;
     let known = r.known;
-    Went::Wrote {
+    TurnResult::Wrote {
         next: Cursor {
             st: next,
             known: known,

@@ -21,7 +21,7 @@ use Rattle.reader.specs.Standing.{Standing}
 use Rattle.reader.specs.declared.Cursor.{Cursor}
 use Rattle.reader.specs.declared.Payload.the-variants.{Part}
 use Rattle.reader.specs.declared.Read.{Read}
-use Rattle.reader.specs.declared.Turned.the-variants.{Done}
+use Rattle.reader.specs.declared.ReadResult.the-variants.{Done}
 use Rattle.reader.proofs.Standing.{known-asked, known-kept}
 use Rattle.reader.proofs.Turning.{turned-done}
 use Rattle.rule_table.specs.declared.table.Rule.{Rule}

@@ -1,4 +1,4 @@
--- The invariant is `Bursting`: what is still to come is what was to come before the first token. The measure is what is left to read.
+-- The invariant is `WritingTokens`: what is still to come is what was to come before the first token. The measure is what is left to read.
 use mathlib.Core.Path.{_≡_, refl, _∙_}
 use mathlib.Core.List.{[]}
 use lib.ListN.{length}
@@ -6,7 +6,7 @@ use Rattle.laws_progress.proofs.Moves.{left}
 use Rattle.rules.proofs.RuleLaws.{chosen-tabled}
 use Rattle.lookahead.proofs.LookaheadLaws.{action-chose}
 use Rattle.fast_path.proofs.TokenLaws.{action-asks}
-use Rattle.fast_path.proofs.BurstLaws.{Bursting, bursting-starts, bursting-looks, bursting-writes, bursting-reader, bursting-left, bursting-put, bursts-nowhere}
+use Rattle.fast_path.proofs.TokensWrittenLaws.{WritingTokens, tokens-start, looks-asked, writes-asked, then-reader, then-action, token-passed, no-tokens}
 use native.Mathlib.Omega.{arith}
 use borrow.Author.Needs.{needs}
 use Rattle.fast_path.proofs.write_tokens.Statement.{statement}
@@ -14,7 +14,7 @@ use Rattle.fast_path.proofs.write_tokens.Tie as tie
 
 abbrev Inv-loop : tie.InvT-loop
 Inv-loop text classes ops symbols begun filled records₀ bytes₀ at₀ count₀ used₀ plain₀ records bytes at count used plain =
-    Bursting text classes at₀ count₀ used₀ records₀ bytes₀ at count used plain records bytes × (length records ≡ length records₀) × (length bytes ≡ length bytes₀)
+    WritingTokens text classes at₀ count₀ used₀ records₀ bytes₀ at count used plain records bytes × (length records ≡ length records₀) × (length bytes ≡ length bytes₀)
 
 abbrev μ-loop : tie.MeasureT-loop
 μ-loop text classes ops symbols begun filled records₀ bytes₀ at₀ count₀ used₀ plain₀ records bytes at count used plain = left text (at .st)
@@ -23,13 +23,13 @@ stopped-requires : tie.Need-stopped-requires Inv-loop μ-loop
 stopped-requires c κs = search needs
 
 returns : tie.Need-returns Inv-loop μ-loop
-returns c = bursts-nowhere (c .before .before .before .before .before .before .before .before .pre .0) (c .before .if1 .taken) (c .stopped .ensures)
+returns c = no-tokens (c .before .before .before .before .before .before .before .before .pre .0) (c .before .if1 .taken) (c .stopped .ensures)
 
 loop-holds : tie.Need-loop-holds Inv-loop μ-loop
-loop-holds c = (bursting-starts (c .before .before .before .before .before .before .before .pre .0) (c .if1 .left), refl, refl)
+loop-holds c = (tokens-start (c .before .before .before .before .before .before .before .pre .0) (c .if1 .left), refl, refl)
 
 look-requires : tie.Need-look-requires Inv-loop μ-loop
-look-requires c κs = bursting-looks (c .loop .inv .0) (c .before .before .before .before .before .before .before .before .pre .1)
+look-requires c κs = looks-asked (c .loop .inv .0) (c .before .before .before .before .before .before .before .before .pre .1)
 
 enum-known-here : tie.Need-enum-known-here Inv-loop μ-loop
 enum-known-here c = search needs
@@ -46,7 +46,7 @@ same-length-2 c = c .before .before .before .before .before .loop .inv .2
 returns-2 : tie.Need-returns-2 Inv-loop μ-loop
 returns-2 c =
     let sees = rw (c .before .before .here .given .1) at (c .before .before .before .before .look .ensures) in
-    bursting-reader (c .before .before .before .before .before .loop .inv .0) sees (c .stopped2 .ensures)
+    then-reader (c .before .before .before .before .before .loop .inv .0) sees (c .stopped2 .ensures)
 
 enum-known-here-2 : tie.Need-enum-known-here-2 Inv-loop μ-loop
 enum-known-here-2 c = search needs
@@ -61,7 +61,7 @@ mul-first : tie.Need-mul-first Inv-loop μ-loop
 mul-first c = omega (arith, c .before .before .before .before .before .loop .inv .0 .between .kept .begun)
 
 put-action-requires : tie.Need-put-action-requires Inv-loop μ-loop
-put-action-requires c κs = action-asks (c .before .before .ruled .ensures [] (omega arith)) (bursting-writes (c .before .before .before .before .before .before .before .loop .inv .0))
+put-action-requires c κs = action-asks (c .before .before .ruled .ensures [] (omega arith)) (writes-asked (c .before .before .before .before .before .before .before .loop .inv .0))
 
 enum-told : tie.Need-enum-told Inv-loop μ-loop
 enum-told c = search needs
@@ -80,7 +80,7 @@ returns-3 c =
     let p = c .before .before .before .before .before .before .before in
     let l = p .before .before .before .before .before .before .before .before in
     let sees = rw (p .before .before .before .before .before .here2 .given .1) at (p .before .before .before .before .before .before .before .look .ensures) in
-    bursting-left (l .loop .inv .0) sees (p .before .before .before .ruled .ensures) (rw (c .before .enum-told .given .1) at (p .put-action .ensures)) (c .stopped3 .ensures)
+    then-action (l .loop .inv .0) sees (p .before .before .before .ruled .ensures) (rw (c .before .enum-told .given .1) at (p .put-action .ensures)) (c .stopped3 .ensures)
 
 enum-known-next : tie.Need-enum-known-next Inv-loop μ-loop
 enum-known-next c = search needs
@@ -93,14 +93,14 @@ loop-less c =
     let p = c .before .before .before .before .before .before .before in
     let l = p .before .before .before .before .before .before .before .before in
     let sees = rw (p .before .before .before .before .before .here2 .given .1) at (p .before .before .before .before .before .before .before .look .ensures) in
-    bursting-put (l .loop .inv .0) sees (p .before .before .before .ruled .ensures) _ _ _ _ _ (rw (c .before .next .given .1) at (p .put-action .ensures)) .1
+    token-passed (l .loop .inv .0) sees (p .before .before .before .ruled .ensures) _ _ _ _ _ (rw (c .before .next .given .1) at (p .put-action .ensures)) .1
 
 loop-again : tie.Need-loop-again Inv-loop μ-loop
 loop-again c =
     let p = c .before .before .before .before .before .before .before in
     let l = p .before .before .before .before .before .before .before .before in
     let sees = rw (p .before .before .before .before .before .here2 .given .1) at (p .before .before .before .before .before .before .before .look .ensures) in
-    (bursting-put (l .loop .inv .0) sees (p .before .before .before .ruled .ensures) _ _ _ _ _ (rw (c .before .next .given .1) at (p .put-action .ensures)) .0, p .put-action .kept .1 .1 .1 .1 .1 .1 .0 ∙ l .loop .inv .1, p .put-action .kept .1 .1 .1 .1 .1 .1 .1 .0 ∙ l .loop .inv .2)
+    (token-passed (l .loop .inv .0) sees (p .before .before .before .ruled .ensures) _ _ _ _ _ (rw (c .before .next .given .1) at (p .put-action .ensures)) .0, p .put-action .kept .1 .1 .1 .1 .1 .1 .0 ∙ l .loop .inv .1, p .put-action .kept .1 .1 .1 .1 .1 .1 .1 .0 ∙ l .loop .inv .2)
 
 pub write-tokens-spec : {M : Type 1} → statement M
 write-tokens-spec =

@@ -32,13 +32,13 @@ use Rattle.lookahead.specs.Lookahead.{Looks, SeesRule}
 use Rattle.lookahead.specs.declared.NextItem.the-variants.{ByReader, ByAction, InComment}
 use Rattle.lookahead.proofs.LookaheadLaws.{action-chose, action-next}
 use Rattle.select.specs.Standing.{Lent}
-use Rattle.run_turn.specs.declared.Went.the-variants.{Wrote}
+use Rattle.run_turn.specs.declared.TurnResult.the-variants.{Wrote}
 use Rattle.run_turn.specs.Running.{writing, Ran, Between, StandsAhead}
 use Rattle.run_turn.proofs.RunLaws.{between-any, between-on, ran-same}
 use Rattle.fast_path.specs.Puts.{Writes, Puts}
-use Rattle.fast_path.specs.declared.puts.Put.the-variants as put-variants
-use Rattle.fast_path.specs.Bursts.{BurstsTo}
-use Rattle.fast_path.specs.declared.Burst.{Burst}
+use Rattle.fast_path.specs.declared.puts.PutResult.the-variants as put-variants
+use Rattle.fast_path.specs.TokensWritten.{WritesTokens}
+use Rattle.fast_path.specs.declared.TokensWritten.{TokensWritten}
 use Rattle.fast_path.proofs.RanLaws.{action-ran}
 
 -- ---- what stands ahead
@@ -97,7 +97,7 @@ put-stays s here LineComment first used rs ps next used′ known rs′ ps′ m w
 -- ---- the loop
 
 -- between two tokens: what is still to come is what was to come before the first, whatever the file's name is
-pub record Bursting (s f : Bytes) (start : Cursor) (begun filled : ℕ) (rs₀ : List ℕ) (ps₀ : Bytes) (at : Cursor) (count used : ℕ) (known : AsciiRun) (rs : List ℕ)
+pub record WritingTokens (s f : Bytes) (start : Cursor) (begun filled : ℕ) (rs₀ : List ℕ) (ps₀ : Bytes) (at : Cursor) (count used : ℕ) (known : AsciiRun) (rs : List ℕ)
     (ps : Bytes) : Type 0 where
   pub between : Between s [] f at count used rs ps
   pub mode : at .st .mode ≡ 0
@@ -105,18 +105,18 @@ pub record Bursting (s f : Bytes) (start : Cursor) (begun filled : ℕ) (rs₀ :
   pub same : (name : Bytes) → length name ≤ 4096 → run-from s name f (writing at count used rs ps) ≡ run-from s name f (writing start begun filled rs₀ ps₀)
   pub less : left s (at .st) ≤ left s (start .st)
 
-pub bursting-starts : {s f : Bytes} {start : Cursor} {begun filled : ℕ} {rs : List ℕ} {ps : Bytes} → Between s [] f start begun filled rs ps → start .st .mode ≡ 0
-    → Bursting s f start begun filled rs ps start begun filled (record { from = 0; to = 0 }) rs ps
-bursting-starts b m = record { between = b; mode = m; plain = λ k l u. absurd (omega (arith, u)); same = λ name named. refl; less = omega arith }
+pub tokens-start : {s f : Bytes} {start : Cursor} {begun filled : ℕ} {rs : List ℕ} {ps : Bytes} → Between s [] f start begun filled rs ps → start .st .mode ≡ 0
+    → WritingTokens s f start begun filled rs ps start begun filled (record { from = 0; to = 0 }) rs ps
+tokens-start b m = record { between = b; mode = m; plain = λ k l u. absurd (omega (arith, u)); same = λ name named. refl; less = omega arith }
 
 module _ {s f : Bytes} {start : Cursor} {begun filled : ℕ} {rs₀ : List ℕ} {ps₀ : Bytes} {at : Cursor} {count used : ℕ} {plain : AsciiRun} {rs : List ℕ} {ps : Bytes}
-    (k : Bursting s f start begun filled rs₀ ps₀ at count used plain rs ps) where
+    (k : WritingTokens s f start begun filled rs₀ ps₀ at count used plain rs ps) where
   -- what looking ahead and writing ask for
-  pub bursting-looks : {ops symbols : List Bool} → Lent f ops symbols → Looks s f ops symbols at
-  bursting-looks lent = record { standing = record { stands = k .between .kept .stands; cached = k .between .cached }; between = k .mode; lent = lent }
+  pub looks-asked : {ops symbols : List Bool} → Lent f ops symbols → Looks s f ops symbols at
+  looks-asked lent = record { standing = record { stands = k .between .kept .stands; cached = k .between .cached }; between = k .mode; lent = lent }
 
-  pub bursting-writes : Writes s (record-size * count) used plain rs ps
-  bursting-writes = record {
+  pub writes-asked : Writes s (record-size * count) used plain rs ps
+  writes-asked = record {
     begun = k .between .kept .begun;
     filled = k .between .kept .filled;
     little = omega (arith, k .between .kept .spent);
@@ -124,11 +124,11 @@ module _ {s f : Bytes} {start : Cursor} {begun filled : ℕ} {rs₀ : List ℕ} 
   }
 
   -- a token that was written is passed
-  pub bursting-on : {next : Cursor} {used′ : ℕ} {plain′ : AsciiRun} {rs′ : List ℕ} {ps′ : Bytes}
+  pub tokens-on : {next : Cursor} {used′ : ℕ} {plain′ : AsciiRun} {rs′ : List ℕ} {ps′ : Bytes}
       → ((name : Bytes) → length name ≤ 4096 → Ran s (run-turn s name f (writing at count used rs ps)) count (at .st) (Wrote next used′) rs′ ps′)
       → (next .st .mode ≡ 0) × Plain s plain′
-      → Bursting s f start begun filled rs₀ ps₀ next (count + 1) used′ plain′ rs′ ps′ × (left s (next .st) < left s (at .st))
-  bursting-on {next} {used′} {plain′} {rs′} {ps′} ran stays =
+      → WritingTokens s f start begun filled rs₀ ps₀ next (count + 1) used′ plain′ rs′ ps′ × (left s (next .st) < left s (at .st))
+  tokens-on {next} {used′} {plain′} {rs′} {ps′} ran stays =
       let b = between-on (k .between) next used′ rs′ ps′ (ran [] (omega arith)) in (
         record {
           between = b .0;
@@ -141,29 +141,29 @@ module _ {s f : Bytes} {start : Cursor} {begun filled : ℕ} {rs₀ : List ℕ} 
       )
 
   -- behind the tokens stands a choice whose rule reads for itself
-  pub bursting-reader : {here : Cursor} {c : Choice} {rule : ReaderRule} {b : Burst} → SeesRule s f at here c (rules.Reader rule)
-      → b ≡ record { at = at; here = here; ahead = ByReader c rule; count = count; used = used } → BurstsTo s f start begun filled rs₀ ps₀ b rs ps
-  bursting-reader h q = rw q (record { between = k .between; same = k .same; ahead = ahead-reader (k .mode) h; less = k .less })
+  pub then-reader : {here : Cursor} {c : Choice} {rule : ReaderRule} {b : TokensWritten} → SeesRule s f at here c (rules.Reader rule)
+      → b ≡ record { at = at; here = here; ahead = ByReader c rule; count = count; used = used } → WritesTokens s f start begun filled rs₀ ps₀ b rs ps
+  then-reader h q = rw q (record { between = k .between; same = k .same; ahead = ahead-reader (k .mode) h; less = k .less })
 
   module _ {here : Cursor} {c : Choice} {rule : ActionRule} (h : SeesRule s f at here c (rules.Action rule)) {x : Action} (gives : Gives s here c rule x) where
     -- or an action that was left
-    pub bursting-left : {rs′ : List ℕ} {ps′ : Bytes} {b : Burst} → (rs′ ≡ rs) × (ps′ ≡ ps)
-        → b ≡ record { at = at; here = here; ahead = ByAction (c .end) x; count = count; used = used } → BurstsTo s f start begun filled rs₀ ps₀ b rs′ ps′
-    bursting-left (n, m) q = rw (n, m, q) (record { between = k .between; same = k .same; ahead = ahead-action (k .mode) h (k .between .accepted) gives; less = k .less })
+    pub then-action : {rs′ : List ℕ} {ps′ : Bytes} {b : TokensWritten} → (rs′ ≡ rs) × (ps′ ≡ ps)
+        → b ≡ record { at = at; here = here; ahead = ByAction (c .end) x; count = count; used = used } → WritesTokens s f start begun filled rs₀ ps₀ b rs′ ps′
+    then-action (n, m) q = rw (n, m, q) (record { between = k .between; same = k .same; ahead = ahead-action (k .mode) h (k .between .accepted) gives; less = k .less })
 
     -- an action that was written is passed
-    pub bursting-put : (next : Cursor) (used′ : ℕ) (known : AsciiRun) (rs′ : List ℕ) (ps′ : Bytes)
+    pub token-passed : (next : Cursor) (used′ : ℕ) (known : AsciiRun) (rs′ : List ℕ) (ps′ : Bytes)
         → Puts s here x (record-size * count) used rs ps (put-variants.Token next used′ known) rs′ ps′
-        → Bursting s f start begun filled rs₀ ps₀ next (count + 1) used′ known rs′ ps′ × (left s (next .st) < left s (at .st))
-    bursting-put next used′ known rs′ ps′ w =
-        bursting-on (action-turn (k .mode) h (k .between .accepted) gives count used rs ps next used′ known rs′ ps′ w)
+        → WritingTokens s f start begun filled rs₀ ps₀ next (count + 1) used′ known rs′ ps′ × (left s (next .st) < left s (at .st))
+    token-passed next used′ known rs′ ps′ w =
+        tokens-on (action-turn (k .mode) h (k .between .accepted) gives count used rs ps next used′ known rs′ ps′ w)
         (put-stays s here x (record-size * count) used rs ps next used′ known rs′ ps′ (h .faces .between) w)
 
 -- in a comment, or where the reading has ended, nothing is passed
-pub bursts-nowhere : {s f : Bytes} {start : Cursor} {begun filled : ℕ} {rs : List ℕ} {ps : Bytes} {b : Burst} → Between s [] f start begun filled rs ps
+pub no-tokens : {s f : Bytes} {start : Cursor} {begun filled : ℕ} {rs : List ℕ} {ps : Bytes} {b : TokensWritten} → Between s [] f start begun filled rs ps
     → (start .st .mode ≡ 0 → ⊥) → b ≡ record { at = start; here = start; ahead = InComment; count = begun; used = filled }
-    → BurstsTo s f start begun filled rs ps b rs ps
-bursts-nowhere b n q = rw q (record {
+    → WritesTokens s f start begun filled rs ps b rs ps
+no-tokens b n q = rw q (record {
   between = b;
   same = λ name named. refl;
   ahead = λ name named. ahead-inside (record { stands = b .kept .stands; cached = b .cached }) n;
