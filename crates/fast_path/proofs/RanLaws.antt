@@ -45,7 +45,7 @@ module _ (s name f : Bytes) (at here : Cursor) (count used : ℕ) (rs : List ℕ
       let reads : Reads s name f (step s name f (at .st)) r = subst (λ (t : Step). Reads s name f t r) q
       (span-reads (fits .0) (located s st i) (located s st to) (advance st to) refl refl refl (λ known.
       token-reads s name f (bytes-of s name f p) k p (pos-of s st i) (pos-of s st to) NoExtra (advance st to) (column-at one-each s st to) size long (fits .1 f) known)) in
-      rw (w .behind, w .spent) (wrote-ran s name f at count used rs ps awake (w .record-room) r reads size long rs′ ps′ (w .payload-room) (w .records) (w .payload name f))
+      rw (w .after, w .spent) (wrote-ran s name f at count used rs ps awake (w .record-room) r reads size long rs′ ps′ (w .payload-room) (w .records) (w .payload name f))
 
   -- an action that was written was a token
   pub action-ran : (x : Action) (next : Cursor) (used′ : ℕ) (known : AsciiRun) (rs′ : List ℕ) (ps′ : Bytes)

@@ -1,4 +1,4 @@
--- A run's tokens, one behind the other: what holds between two of them, and what stands ahead behind the last. Rests on the laws of
+-- A run's tokens, one after the other: what holds between two of them, and what stands ahead after the last. Rests on the laws of
 -- actions, of tokens that were written and of a run that goes on.
 use Prim.Native.Nat.{ℕ, _+_, _*_, _≤_, _<_}
 use mathlib.Core.Path.{_≡_, refl, sym, _∙_}
@@ -87,10 +87,10 @@ module _ {s f : Bytes} {at here : Cursor} {c : Choice} {rule : ActionRule} (m : 
       action-ran s name f at here count used rs ps (λ e. absurd (omega (arith, m, e))) (c .end) x next used′ known rs′ ps′ (action-is-step name named)
       (gives name named .fits) w
 
--- behind it reading goes on between comments, with a run of ASCII
+-- after it reading goes on between comments, with a run of ASCII
 pub put-stays : (s : Bytes) (here : Cursor) (x : Action) (first used : ℕ) (rs : List ℕ) (ps : Bytes) (next : Cursor) (used′ : ℕ) (known : AsciiRun) (rs′ : List ℕ)
     (ps′ : Bytes) → here .st .mode ≡ 0 → Puts s here x first used rs ps (put-variants.Token next used′ known) rs′ ps′ → (next .st .mode ≡ 0) × Plain s known
-put-stays s here (Token k i e p) first used rs ps next used′ known rs′ ps′ m w = (rw (w .behind) m, w .plain)
+put-stays s here (Token k i e p) first used rs ps next used′ known rs′ ps′ m w = (rw (w .after) m, w .plain)
 put-stays s here (Error n p) first used rs ps next used′ known rs′ ps′ m w = absurd w
 put-stays s here LineComment first used rs ps next used′ known rs′ ps′ m w = absurd w
 
@@ -140,7 +140,7 @@ module _ {s f : Bytes} {start : Cursor} {begun filled : ℕ} {rs₀ : List ℕ} 
         b .1,
       )
 
-  -- behind the tokens stands a choice whose rule reads for itself
+  -- after the tokens stands a choice whose rule reads for itself
   pub then-reader : {here : Cursor} {c : Choice} {rule : ReaderRule} {b : TokensWritten} → SeesRule s f at here c (rules.Reader rule)
       → b ≡ record { at = at; here = here; ahead = ByReader c rule; count = count; used = used } → WritesTokens s f start begun filled rs₀ ps₀ b rs ps
   then-reader h q = rw q (record { between = k .between; same = k .same; ahead = ahead-reader (k .mode) h; less = k .less })

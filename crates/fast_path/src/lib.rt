@@ -1,7 +1,7 @@
 // The tokens of a run that follow one another, each written from its action (module `puts`). Nearly all items are such tokens,
 // and what is handed from function to function for an item costs more than the token.
 //
-// Proved: behind the tokens what is still to come of the run is what was to come before them, whatever the file's name is (no
+// Proved: after the tokens what is still to come of the run is what was to come before them, whatever the file's name is (no
 // token that is written here has it in its payload: the contract asks with the empty name and promises for every one), and
 // what stands ahead there is said (`WritesTokens`). That as many tokens as possible are written is not promised: what is left, a turn writes.
 // Assumed: nothing but what `write_tokens`'s `requires` says: the run was not refused and stands between two items, and the
@@ -23,7 +23,7 @@ ghost use Rattle.select.specs.Standing.{Lent};
 ghost use Rattle.run_turn.specs.Running.{Between};
 ghost use Rattle.fast_path.specs.TokensWritten.{WritesTokens};
 
-// Behind a run's tokens: where the run stands, and what stands ahead, behind white space at `here`.
+// After a run's tokens: where the run stands, and what stands ahead, after white space at `here`.
 pub struct TokensWritten {
     pub at: Cursor,
     pub here: Cursor,
@@ -45,7 +45,7 @@ fn stopped(at: Cursor, here: Cursor, ahead: NextItem, count: usize, used: usize)
     }
 }
 
-// Writes the tokens that stand one behind the other from `start` on, between comments, until something else stands ahead, a
+// Writes the tokens that stand one after the other from `start` on, between comments, until something else stands ahead, a
 // token whose payload is no short one among it, or a buffer is full.
 pub fn write_tokens(
     text: &[u8],

@@ -1,7 +1,7 @@
 // A token written from its action, where it is found, without an item being made of it.
 //
 // Proved: an action is left, and both buffers are what they were, or it is a token and is written as the definition's item is:
-// its record with its columns, its payload, and the state behind it (specs/Puts.antt).
+// its record with its columns, its payload, and the state after it (specs/Puts.antt).
 // Assumed: nothing but what each function's `requires` says: the action can be carried out where the reader stands, and both
 // buffers are written up to where the next record and payload begin.
 use definition::Match;
@@ -26,7 +26,7 @@ ghost use Rattle.record.specs.Numbers.{plain-item};
 ghost use Rattle.reader.specs.declared.actions.Action.the-variants.{Token};
 ghost use Rattle.fast_path.specs.Puts.{PairFits, TokenAsks, ActionAsks, Puts};
 
-// What became of an action: it was left, or it was a token and is written, behind which reading goes on with so many payload
+// What became of an action: it was left, or it was a token and is written, after which reading goes on with so many payload
 // bytes used and with a part of the text that is known to be ASCII.
 pub enum PutResult {
     Left,
@@ -117,14 +117,14 @@ fn put_token(
         records,
         bytes,
     );
-    let behind = Cache {
+    let after = Cache {
         off: to as u32,
         col: cols.end,
     };
     PutResult::Token {
         next: Cursor {
             st: st.advance(to as u32),
-            known: behind,
+            known: after,
         },
         used: used + size,
         plain: ascii,
@@ -148,7 +148,7 @@ pub fn put_action(
     let Action::Token {
         kind,
         from: begin,
-        end: behind,
+        end: to,
         payload,
     } = action
     else {
@@ -159,7 +159,7 @@ pub fn put_action(
         here,
         kind,
         begin,
-        behind,
+        to,
         payload,
         first,
         used,

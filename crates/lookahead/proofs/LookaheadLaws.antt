@@ -1,4 +1,4 @@
--- A reader that looks for the next choice: behind what is passed it reads what it read before. Rests on the laws of choices, of
+-- A reader that looks for the next choice: after what is passed it reads what it read before. Rests on the laws of choices, of
 -- progress and of sound states.
 use Prim.Native.Nat.{_-_, _≤_, _<_}
 use native.Mathlib.Omega.{arith}
@@ -26,7 +26,7 @@ use Rattle.rule_table.specs.declared.table.Rule.the-variants.{White, Newline}
 use Rattle.rule_table.specs.declared.table.ActionRule.{ActionRule}
 use Rattle.rules.specs.Acting.{Acts}
 use Rattle.rules.proofs.RuleLaws.{needs-place, some-chosen, by-rule, ruled-acts, moved-turns, line-turns}
-use Rattle.lookahead.specs.White.{Between, Behind}
+use Rattle.lookahead.specs.White.{Between, AfterWhite}
 use Rattle.lookahead.proofs.TurnLaws.{Goes, turn-is, turn-acts, turn-goes}
 use Rattle.lookahead.specs.Lookahead.{Faces, SeesRule}
 
@@ -52,8 +52,8 @@ pub record Reaching (s f : Bytes) (first here : Cursor) : Type 0 where
 pub reaching-starts : {s f : Bytes} {at : Cursor} → Between s f at → Reaching s f at at
 reaching-starts h = record { ready = h; same = λ name named. refl }
 
-pub reaching-behind : {s f : Bytes} {first from here : Cursor} → Reaching s f first from → Behind s f from here → Reaching s f first here
-reaching-behind k b = record { ready = b .ready; same = λ name named. b .same name ∙ k .same name named }
+pub reaching-after : {s f : Bytes} {first from here : Cursor} → Reaching s f first from → AfterWhite s f from here → Reaching s f first here
+reaching-after k b = record { ready = b .ready; same = λ name named. b .same name ∙ k .same name named }
 
 module _ {s f : Bytes} {first here : Cursor} {c : Choice} (k : Reaching s f first here) (q : c ≡ select s f (here .st .offset))
     {r : Rule} (is : rule-of (c .place) ≡ r) where
@@ -61,7 +61,7 @@ module _ {s f : Bytes} {first here : Cursor} {c : Choice} (k : Reaching s f firs
   pub chosen : needs-place r ≡ true → Chose s here (c .end)
   chosen z = some-chosen f (k .ready .standing) (k .ready .between) q is z
 
-  -- behind what a rule passes the reader goes on, with less of the text before it
+  -- after what a rule passes the reader goes on, with less of the text before it
   passed : {p : Cursor} → needs-place r ≡ true
       → ((name : Bytes) → Turns s name f (does s name f r (here .st) (c .place) (c .end) (c .word)) (Again p))
       → Reaching s f first p × (length s - p .st .offset < length s - here .st .offset)
@@ -102,7 +102,7 @@ module _ {s f : Bytes} {here : Cursor} {c : Choice} {rule : ActionRule} (h : Fac
   ready : Between s f here
   ready = record { standing = h .standing; between = h .between; accepted = accepted }
 
-  -- a choice whose rule gives an action ends behind the reader
+  -- a choice whose rule gives an action ends after the reader
   pub action-chose : Chose s here (c .end)
   action-chose = some-chosen f (h .standing) (h .between) (h .chosen) (h .ruled) refl
 

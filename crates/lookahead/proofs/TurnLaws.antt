@@ -1,4 +1,4 @@
--- A turn of `next-token` that goes on, and where a reader stands behind white space. Rests on the laws of progress and of sound states.
+-- A turn of `next-token` that goes on, and where a reader stands after white space. Rests on the laws of progress and of sound states.
 use Prim.Native.Nat.{_-_, _<_}
 use native.Mathlib.Omega.{arith}
 use mathlib.Core.Path.{_≡_, refl, sym, _∙_}
@@ -21,7 +21,7 @@ use Rattle.reader.specs.declared.Cursor.{Cursor}
 use Rattle.reader.specs.declared.ReadResult.{ReadResult}
 use Rattle.reader.specs.declared.ReadResult.the-variants.{Again}
 use Rattle.reader.proofs.Turning.{turned-again}
-use Rattle.lookahead.specs.White.{Between, Passes, Behind}
+use Rattle.lookahead.specs.White.{Between, Passes, AfterWhite}
 use Rattle.lookahead.specs.declared.white_space.Passed.the-variants.{On}
 
 -- before the text's end a turn acts on the choice
@@ -61,13 +61,13 @@ turn-goes s name f st p h m t =
 
 -- ---- white space before a choice
 
-pub behind-starts : {s f : Bytes} {at : Cursor} → Between s f at → Behind s f at at
-behind-starts h = record { ready = h; same = λ name. refl; less = omega arith }
+pub after-white-starts : {s f : Bytes} {at : Cursor} → Between s f at → AfterWhite s f at at
+after-white-starts h = record { ready = h; same = λ name. refl; less = omega arith }
 
--- what is passed leads on behind it
-pub behind-on : {s f : Bytes} {first here next : Cursor} → Behind s f first here → Passes s f (here .st) (On next)
-    → Behind s f first next × (length s - next .st .offset < length s - here .st .offset)
-behind-on {s} {f} {first} {here} {next} b p =
+-- what is passed leads on after it
+pub after-white-on : {s f : Bytes} {first here next : Cursor} → AfterWhite s f first here → Passes s f (here .st) (On next)
+    → AfterWhite s f first next × (length s - next .st .offset < length s - here .st .offset)
+after-white-on {s} {f} {first} {here} {next} b p =
     let goes : (name : Bytes) → Goes s name f (here .st) next = λ name. turn-goes s name f (here .st) next (b .ready .standing .stands) (b .ready .between) (p name) in
     let g = goes [] in (
       record {

@@ -1,4 +1,4 @@
--- At a blank and at a line end of ASCII a turn goes on behind them. Rests on the laws of choices, of runs and of line ends.
+-- At a blank and at a line end of ASCII a turn goes on after them. Rests on the laws of choices, of runs and of line ends.
 use Prim.Native.Nat.{ℕ, _+_, _<_}
 use native.Mathlib.Omega.{arith}
 use mathlib.Core.Path.{_≡_, refl, sym, ap, subst, _∙_}
@@ -71,7 +71,7 @@ module _ (s f : Bytes) (i : ℕ) where
 -- ---- what is passed
 
 module _ {s f : Bytes} {at : Cursor} (h : Between s f at) where
-  -- what a place chooses ends behind where the reader stands
+  -- what a place chooses ends after where the reader stands
   chose : {k e : ℕ} → select s f (at .st .offset) ≡ record { place = k; end = e; word = 0 } → eqb k 0 ≡ false → Chose s at e
   chose {k} {e} q z =
       let fits = subst (Fits s (at .st .offset)) q (select-fits s (at .st .offset) f) in

@@ -1,4 +1,4 @@
-// What stands ahead of a reader: the choice behind white space and line ends, with its rule, and the item that it leads to.
+// What stands ahead of a reader: the choice after white space and line ends, with its rule, and the item that it leads to.
 //
 // Proved: from where `look` stands the definition's `next-token` gives the same item, the choice is the definition's
 // `select` there, and the rule is its place's; the type leaves no room for white space and line ends. What the next item is
@@ -7,7 +7,7 @@
 // the class file and the tables of operator and of symbol characters are lent.
 pub mod white_space; // white_space.rt: white space and line ends of ASCII, passed before a choice
 
-use crate::white_space::behind_white;
+use crate::white_space::after_white;
 use definition::Choice;
 use reader::Cursor;
 use reader::actions::Action;
@@ -20,7 +20,7 @@ use rule_table::table::rule_of;
 use select::select;
 ghost use Rattle.lookahead.specs.Lookahead.{Looks, Sees};
 
-// Where a reader stands behind white space and line ends, what is chosen there, and the rule of the choice.
+// Where a reader stands after white space and line ends, what is chosen there, and the rule of the choice.
 pub enum Lookahead {
     // A choice whose rule gives an action.
     Action {
@@ -59,7 +59,7 @@ pub fn look(
 {
     let mut from = at;
     loop {
-        let here = behind_white(text, classes, from);
+        let here = after_white(text, classes, from);
         let st = here.st;
         let choice = select(text, classes, ops, symbols, st.offset as usize);
         match rule_of(choice.place) {

@@ -200,7 +200,7 @@ fn read_contents(text: &[u8], name: &[u8], header: Header, lang: bool, at: Curso
     }
 }
 
-// The source's `blob`, from behind its header.
+// The source's `blob`, from after its header.
 pub fn blob(text: &[u8], name: &[u8], header: Header, at: Cursor) -> Read
     requires { ⌜ InBlob (now text) header (at .st .offset) at ⌝ }
     ensures { λ r. ⌜ ((f : Bytes) → Reads (now (text .entry)) (now (name .entry)) f (blob (now (text .entry)) (header-of (now (text .entry)) header) (at .st)) r) ⌝ }
@@ -208,7 +208,7 @@ pub fn blob(text: &[u8], name: &[u8], header: Header, at: Cursor) -> Read
     read_contents(text, name, header, false, at)
 }
 
-// The source's `use_lang`, from behind its header.
+// The source's `use_lang`, from after its header.
 pub fn use_lang(text: &[u8], name: &[u8], header: Header, at: Cursor) -> Read
     requires { ⌜ InBlob (now text) header (at .st .offset) at ⌝ }
     ensures { λ r. ⌜ ((f : Bytes) → Reads (now (text .entry)) (now (name .entry)) f (use-lang (now (text .entry)) (header-of (now (text .entry)) header) (at .st)) r) ⌝ }

@@ -42,7 +42,7 @@ fn byte_pair(text: &[u8], i: usize, a: u8, b: u8) -> bool
     false
 }
 
-// The piece that began at byte `from` and whose text ends at byte `to`; the reader stands behind it.
+// The piece that began at byte `from` and whose text ends at byte `to`; the reader stands after it.
 fn terminate(text: &[u8], from: usize, to: usize, closed: bool, at: Cursor) -> Read
     requires { ⌜ Ending (now text) to at ⌝ }
     ensures { λ r. ⌜ ReadsAny (now (text .entry)) (terminate (now (text .entry)) from to closed (at .st)) r ⌝ }

@@ -1,4 +1,4 @@
-// String literals: the source's `string_lit`, which reads one from behind its quote.
+// String literals: the source's `string_lit`, which reads one from after its quote.
 //
 // Proved: what is read is what the definition's `string-lit` gives: item, payload and state. The payload is a part of the
 // text where the literal stands there as it is, and is told by where it begins otherwise.
@@ -109,7 +109,7 @@ fn turn(
     }
 }
 
-// The source's `string_lit`, from behind the opening quote; sp is where that stands.
+// The source's `string_lit`, from after the opening quote; sp is where that stands.
 pub fn string_lit(text: &[u8], name: &[u8], classes: &[u8], at: Cursor, sp: Pos) -> Read
     requires { ⌜ Reader (now text) (now classes) at ⌝ }
     ensures { λ r. ⌜ Reads (now (text .entry)) (now (name .entry)) (now (classes .entry)) (string-lit (now (text .entry)) (now (classes .entry)) (at .st) sp) r ⌝ }

@@ -1,10 +1,10 @@
 // What is done with a choice, by its rule (crate `rule_table`). Most rules give an action (`ruled`), which is carried out where it
-// is known whether the token fits (crate `fast_path`, module `finishes`); those that read on from behind the choice, that of
+// is known whether the token fits (crate `fast_path`, module `finishes`); those that read on from after the choice, that of
 // characters and that of no place read for themselves (`act`). White space and line ends read nothing: who asks for a choice
 // passes them (crate `lookahead`).
 //
 // Proved: an action stands for what the definition's rule gives, and `act` does what the definition's `act` does with the
-// choice that `select` makes: it reads an item, its payload and the state behind it. The laws that this rests on (in proofs/):
+// choice that `select` makes: it reads an item, its payload and the state after it. The laws that this rests on (in proofs/):
 // the table of rules is the definition's (RuleLaws, `rules-are`), and the word of a choice is one of its place's table
 // (Tabling).
 // Assumed: nothing but what each function's `requires` says: a reader stands in a sound state of a legal text, between

@@ -31,7 +31,7 @@ writing at count used rs ps = record { state = at .st; records = rs; payload = p
 abbrev pub answered : ℕ → ℕ → State → RunAnswer
 answered stop count st = record { refusal = 0; offset = 0; stop = stop; count = count; state = st }
 
--- what a turn of the definition says is what the code did: it stopped, or it wrote an item and stands behind it
+-- what a turn of the definition says is what the code did: it stopped, or it wrote an item and stands after it
 abbrev pub Ran : Bytes → Turn Writing Outcome → ℕ → State → TurnResult → List ℕ → Bytes → Type 0
 Ran s t count st (Stop n) rs ps = t ≡ done (answered n count st, rs, ps)
 Ran s t count st (Wrote next used) rs ps = (t ≡ again (writing next (count + 1) used rs ps)) × Known-at s (next .st) (next .known)
@@ -52,7 +52,7 @@ pub record Between (s name f : Bytes) (at : Cursor) (count used : ℕ) (rs : Lis
   pub kept : Kept s (writing at count used rs ps)
   pub cached : Known-at s (at .st) (at .known)
 
--- what stands ahead of the reader at `at` is `ahead`, behind white space at `here`, unless the reading has ended
+-- what stands ahead of the reader at `at` is `ahead`, after white space at `here`, unless the reading has ended
 pub record StandsAhead (s name f : Bytes) (at here : Cursor) (ahead : NextItem) : Type 0 where
   pub readable : (at .st .mode ≡ 2 → ⊥) → Readable s name f here ahead
   pub is : (at .st .mode ≡ 2 → ⊥) → ahead-step s name f (here .st) ahead ≡ step s name f (at .st)

@@ -18,7 +18,7 @@ ghost use Rattle.definition.specs.Run.{put, run-turn};
 ghost use Rattle.reader.specs.Described.{bytes-of};
 ghost use Rattle.run_turn.specs.Running.{writing, Ran, Between, StandsAhead, ItemFits};
 
-// What a turn of a run did: it stopped, for document 01's reason, or it wrote an item, behind which reading goes on with so
+// What a turn of a run did: it stopped, for document 01's reason, or it wrote an item, after which reading goes on with so
 // many payload bytes used.
 pub enum TurnResult {
     Stop(u32),
@@ -46,7 +46,7 @@ fn write_item(
 }
 
 // One turn: stop 0 at the end, stop 1 where no record fits, stop 2 where the next payload doesn't; else an item is written.
-// The run stands at `at`, and behind white space, at `here`, stands what is ahead.
+// The run stands at `at`, and after white space, at `here`, stands what is ahead.
 pub fn turn(
     text: &[u8],
     name: &[u8],

@@ -1,7 +1,7 @@
-// A step of the lexer: the item that stands ahead of a reader, with the state behind it.
+// A step of the lexer: the item that stands ahead of a reader, with the state after it.
 //
-// Proved: `read` reads what the definition gives: behind white space and line ends what its `next-token` gives, and in a
-// comment what its `comment` gives, item, payload and state, and a column that is known behind it.
+// Proved: `read` reads what the definition gives: after white space and line ends what its `next-token` gives, and in a
+// comment what its `comment` gives, item, payload and state, and a column that is known after it.
 // Assumed: nothing but what each function's `requires` says: a reader stands in a sound state of a legal text and hasn't
 // ended, what stands ahead was found there (crate `lookahead`), the class file is accepted, and the name is short enough.
 use definition::Choice;
@@ -45,7 +45,7 @@ fn end_of_text(text: &[u8], name: &[u8], at: Cursor) -> Read
     )
 }
 
-// What is read of a choice: the source's `next_token` from behind white space and line ends, where no action is given.
+// What is read of a choice: the source's `next_token` from after white space and line ends, where no action is given.
 fn read_choice(
     text: &[u8],
     name: &[u8],

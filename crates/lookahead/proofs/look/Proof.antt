@@ -1,10 +1,10 @@
--- The invariant is `Reaching`: what is read from there is what the first reads, also behind white space. The measure is what is left
+-- The invariant is `Reaching`: what is read from there is what the first reads, also after white space. The measure is what is left
 -- of the text.
 use Prim.Native.Nat.{_-_}
 use mathlib.Core.Path.{refl, sym, _∙_}
 use lib.ListN.{length}
 use Rattle.rules.proofs.RuleLaws.{chosen-tabled, end-fits, line-fits}
-use Rattle.lookahead.proofs.LookaheadLaws.{Reaching, reaching-starts, reaching-behind, chosen, passed-white, passed-line, seen}
+use Rattle.lookahead.proofs.LookaheadLaws.{Reaching, reaching-starts, reaching-after, chosen, passed-white, passed-line, seen}
 use native.Mathlib.Omega.{arith}
 use borrow.Author.Needs.{needs}
 use Rattle.lookahead.proofs.look.Statement.{statement}
@@ -21,8 +21,8 @@ loop-holds c =
     let p = c .before .before .pre in
     reaching-starts (record { standing = p .standing; between = p .between; accepted = p .lent .classes })
 
-behind-white-requires : tie.Need-behind-white-requires Inv-loop μ-loop
-behind-white-requires c κs = c .loop .inv .ready
+after-white-requires : tie.Need-after-white-requires Inv-loop μ-loop
+after-white-requires c κs = c .loop .inv .ready
 
 cast-select : tie.Need-cast-select Inv-loop μ-loop
 cast-select c = search needs
@@ -39,20 +39,20 @@ enum-told c = search needs
 moved-requires : tie.Need-moved-requires Inv-loop μ-loop
 moved-requires c κs =
     let d = c .before .before in
-    let k = reaching-behind (d .before .before .before .before .before .loop .inv) (d .before .before .before .before .behind-white .ensures) in
+    let k = reaching-after (d .before .before .before .before .before .loop .inv) (d .before .before .before .before .after-white .ensures) in
     end-fits (chosen k (d .before .select .ensures) (sym (d .rule-of .ensures) ∙ c .enum-told .given .1) refl)
 
 loop-less : tie.Need-loop-less Inv-loop μ-loop
 loop-less c =
     let d = c .before .before .before in
-    let k = reaching-behind (d .before .before .before .before .before .loop .inv) (d .before .before .before .before .behind-white .ensures) in
+    let k = reaching-after (d .before .before .before .before .before .loop .inv) (d .before .before .before .before .after-white .ensures) in
     let passed = passed-white k (d .before .select .ensures) (sym (d .rule-of .ensures) ∙ c .before .enum-told .given .1) (c .moved .ensures) in
-    omega (arith, passed .1, d .before .before .before .before .behind-white .ensures .less)
+    omega (arith, passed .1, d .before .before .before .before .after-white .ensures .less)
 
 loop-again : tie.Need-loop-again Inv-loop μ-loop
 loop-again c =
     let d = c .before .before .before in
-    let k = reaching-behind (d .before .before .before .before .before .loop .inv) (d .before .before .before .before .behind-white .ensures) in
+    let k = reaching-after (d .before .before .before .before .before .loop .inv) (d .before .before .before .before .after-white .ensures) in
     passed-white k (d .before .select .ensures) (sym (d .rule-of .ensures) ∙ c .before .enum-told .given .1) (c .moved .ensures) .0
 
 enum-told-2 : tie.Need-enum-told-2 Inv-loop μ-loop
@@ -61,21 +61,21 @@ enum-told-2 c = search needs
 next-line-requires : tie.Need-next-line-requires Inv-loop μ-loop
 next-line-requires c κs =
     let d = c .before .before in
-    let k = reaching-behind (d .before .before .before .before .before .loop .inv) (d .before .before .before .before .behind-white .ensures) in
+    let k = reaching-after (d .before .before .before .before .before .loop .inv) (d .before .before .before .before .after-white .ensures) in
     let h = chosen k (d .before .select .ensures) (sym (d .rule-of .ensures) ∙ c .enum-told2 .given .1) refl in
     (end-fits h, line-fits h)
 
 loop-less-2 : tie.Need-loop-less-2 Inv-loop μ-loop
 loop-less-2 c =
     let d = c .before .before .before in
-    let k = reaching-behind (d .before .before .before .before .before .loop .inv) (d .before .before .before .before .behind-white .ensures) in
+    let k = reaching-after (d .before .before .before .before .before .loop .inv) (d .before .before .before .before .after-white .ensures) in
     let passed = passed-line k (d .before .select .ensures) (sym (d .rule-of .ensures) ∙ c .before .enum-told2 .given .1) (c .next-line .ensures) in
-    omega (arith, passed .1, d .before .before .before .before .behind-white .ensures .less)
+    omega (arith, passed .1, d .before .before .before .before .after-white .ensures .less)
 
 loop-again-2 : tie.Need-loop-again-2 Inv-loop μ-loop
 loop-again-2 c =
     let d = c .before .before .before in
-    let k = reaching-behind (d .before .before .before .before .before .loop .inv) (d .before .before .before .before .behind-white .ensures) in
+    let k = reaching-after (d .before .before .before .before .before .loop .inv) (d .before .before .before .before .after-white .ensures) in
     passed-line k (d .before .select .ensures) (sym (d .rule-of .ensures) ∙ c .before .enum-told2 .given .1) (c .next-line .ensures) .0
 
 enum-known-rule : tie.Need-enum-known-rule Inv-loop μ-loop
@@ -84,7 +84,7 @@ enum-known-rule c = search needs
 returns : tie.Need-returns Inv-loop μ-loop
 returns c =
     let d = c .before .before .before in
-    let k = reaching-behind (d .before .before .before .before .before .loop .inv) (d .before .before .before .before .behind-white .ensures) in
+    let k = reaching-after (d .before .before .before .before .before .loop .inv) (d .before .before .before .before .after-white .ensures) in
     seen k (d .before .select .ensures) (sym (d .rule-of .ensures) ∙ c .before .rule .given .1)
 
 enum-known-rule-2 : tie.Need-enum-known-rule-2 Inv-loop μ-loop
@@ -93,7 +93,7 @@ enum-known-rule-2 c = search needs
 returns-2 : tie.Need-returns-2 Inv-loop μ-loop
 returns-2 c =
     let d = c .before .before .before in
-    let k = reaching-behind (d .before .before .before .before .before .loop .inv) (d .before .before .before .before .behind-white .ensures) in
+    let k = reaching-after (d .before .before .before .before .before .loop .inv) (d .before .before .before .before .after-white .ensures) in
     seen k (d .before .select .ensures) (sym (d .rule-of .ensures) ∙ c .before .rule2 .given .1)
 
 pub look-spec : {M : Type 1} → statement M
@@ -103,7 +103,7 @@ look-spec =
     Inv-loop
     μ-loop
     loop-holds
-    behind-white-requires
+    after-white-requires
     cast-select
     select-requires
     rule-of-requires
