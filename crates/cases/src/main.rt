@@ -19,7 +19,7 @@
 //   record NUMBERS        each sixteen of the record numbers lent, up to the last that isn't 4294967295
 //   payload BYTES         the payload bytes lent, in hexadecimal, up to the last that isn't 255
 //
-// Before a run all that it is lent holds 4294967295 and 255, so these lines say what every number and byte holds behind it. A frame
+// Before a run all that it is lent holds 4294967295 and 255, so these lines say what every number and byte holds after it. A frame
 // that is cut short or too large, or asks for none of the calls, gets a line that says so and is the last.
 //
 // Proved: it ends and breaks nothing; what the calls answer is the definition's (crate `lexer`). What it
@@ -47,7 +47,7 @@ const RUN: u32 = 3;
 // The length that says that name, text and class file are those of the frame before.
 const KEPT: u32 = 4294967295;
 
-// Where the name, the text behind it and the class file behind that end in the buffer that they are read into, and whether a frame
+// Where the name, the text after it and the class file after that end in the buffer that they are read into, and whether a frame
 // may follow.
 pub struct Parts {
     pub name: usize,

@@ -39,7 +39,7 @@ fn hex_value(text: &[u8], k: usize, n: usize) -> u32
     value
 }
 
-// What the byte c at i + 1, behind a backslash, denotes, together with what follows it.
+// What the byte c at i + 1, after a backslash, denotes, together with what follows it.
 fn escaped(text: &[u8], i: usize, c: u8) -> u32
     requires { ⌜ Behind (now text) i ⌝ }
     ensures { λ r. ⌜ r ≡ escaped (now (text .entry)) i c ⌝ }

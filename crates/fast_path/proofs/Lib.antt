@@ -1,3 +1,3 @@
 pub mod RanLaws
-pub mod BurstLaws
+pub mod TokensWrittenLaws
 pub mod TokenLaws

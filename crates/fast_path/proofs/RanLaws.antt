@@ -21,11 +21,11 @@ use Rattle.reader.specs.Actions.{Fits, action-step}
 use Rattle.reader.specs.declared.actions.Action.{Action}
 use Rattle.reader.specs.declared.actions.Action.the-variants.{Token, Error, LineComment}
 use Rattle.reader.proofs.ActionBuilding.{span-reads}
-use Rattle.run_turn.specs.declared.Went.the-variants.{Wrote}
+use Rattle.run_turn.specs.declared.TurnResult.the-variants.{Wrote}
 use Rattle.run_turn.specs.Running.{writing, Ran}
 use Rattle.run_turn.proofs.TurnLaws.{wrote-ran}
 use Rattle.fast_path.specs.Puts.{Written, Puts}
-use Rattle.fast_path.specs.declared.puts.Put.the-variants as put-variants
+use Rattle.fast_path.specs.declared.puts.PutResult.the-variants as put-variants
 
 module _ (s name f : Bytes) (at here : Cursor) (count used : ℕ) (rs : List ℕ) (ps : Bytes) (awake : at .st .mode ≡ 2 → ⊥) (e : ℕ) where
   token-ran : {k i to : ℕ} {p : Payload} {next : Cursor} {used′ : ℕ} {known : AsciiRun} {rs′ : List ℕ} {ps′ : Bytes}
@@ -45,7 +45,7 @@ module _ (s name f : Bytes) (at here : Cursor) (count used : ℕ) (rs : List ℕ
       let reads : Reads s name f (step s name f (at .st)) r = subst (λ (t : Step). Reads s name f t r) q
       (span-reads (fits .0) (located s st i) (located s st to) (advance st to) refl refl refl (λ known.
       token-reads s name f (bytes-of s name f p) k p (pos-of s st i) (pos-of s st to) NoExtra (advance st to) (column-at one-each s st to) size long (fits .1 f) known)) in
-      rw (w .behind, w .spent) (wrote-ran s name f at count used rs ps awake (w .record-room) r reads size long rs′ ps′ (w .payload-room) (w .records) (w .payload name f))
+      rw (w .after, w .spent) (wrote-ran s name f at count used rs ps awake (w .record-room) r reads size long rs′ ps′ (w .payload-room) (w .records) (w .payload name f))
 
   -- an action that was written was a token
   pub action-ran : (x : Action) (next : Cursor) (used′ : ℕ) (known : AsciiRun) (rs′ : List ℕ) (ps′ : Bytes)

@@ -1,2 +1,2 @@
-pub mod Bursts
+pub mod TokensWritten
 pub mod Puts

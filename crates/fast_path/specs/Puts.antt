@@ -1,4 +1,4 @@
--- What writing a token asks for and does. s is the text, here the place where the reader stands behind white space; rs and ps are the
+-- What writing a token asks for and does. s is the text, here the place where the reader stands after white space; rs and ps are the
 -- buffers before, rs′ and ps′ those after.
 use Prim.Native.Nat.{ℕ, _+_, _-_, _≤_, _<_}
 use mathlib.Core.Path.{_≡_}
@@ -20,10 +20,10 @@ use Rattle.record.specs.Numbers.{plain-item}
 use Rattle.reader.specs.Actions.{Spans}
 use Rattle.reader.specs.declared.actions.Action.{Action}
 use Rattle.reader.specs.declared.actions.Action.the-variants.{Token, Error, LineComment}
-use Rattle.fast_path.specs.declared.puts.Put.{Put}
-use Rattle.fast_path.specs.declared.puts.Put.the-variants as put-variants
+use Rattle.fast_path.specs.declared.puts.PutResult.{PutResult}
+use Rattle.fast_path.specs.declared.puts.PutResult.the-variants as put-variants
 
--- a token's record and its short payload of `size` bytes fit behind what is written
+-- a token's record and its short payload of `size` bytes fit after what is written
 pub record PairFits (s : Bytes) (p : Payload) (size first used : ℕ) (rs : List ℕ) (ps : Bytes) : Type 0 where
   pub short : short-length p ≡ To size
   pub inside : Inside s p
@@ -53,21 +53,21 @@ ActionAsks s here (Token k i e p) first used plain rs ps = TokenAsks s here i e 
 ActionAsks s here (Error n p) first used plain rs ps = Unit {0}
 ActionAsks s here LineComment first used plain rs ps = Unit {0}
 
--- a token from i up to e was written, and reading goes on behind it
+-- a token from i up to e was written, and reading goes on after it
 pub record Written (s : Bytes) (here : Cursor) (k i e : ℕ) (p : Payload) (first used : ℕ) (rs : List ℕ) (ps : Bytes) (next : Cursor) (used′ : ℕ)
     (known : AsciiRun) (rs′ : List ℕ) (ps′ : Bytes) : Type 0 where
   pub size : ℕ
   pub short : short-length p ≡ To size
   pub record-room : record-size ≤ length rs - first
   pub payload-room : size ≤ length ps - used
-  pub behind : next ≡ record { st = advance (here .st) e; known = column-at one-each s (here .st) e }
+  pub after : next ≡ record { st = advance (here .st) e; known = column-at one-each s (here .st) e }
   pub spent : used′ ≡ used + size
   pub records : rs′ ≡ put rs first (words (plain-item k (pos-of s (here .st) i) (pos-of s (here .st) e) size (here .st .comments)) used)
   pub payload : (name f : Bytes) → ps′ ≡ put ps used (bytes-of s name f p)
   pub plain : Plain s known
 
 -- what became of an action: where it was left both buffers are what they were
-abbrev pub Puts : Bytes → Cursor → Action → ℕ → ℕ → List ℕ → Bytes → Put → List ℕ → Bytes → Type 0
+abbrev pub Puts : Bytes → Cursor → Action → ℕ → ℕ → List ℕ → Bytes → PutResult → List ℕ → Bytes → Type 0
 Puts s here x first used rs ps put-variants.Left rs′ ps′ = (rs′ ≡ rs) × (ps′ ≡ ps)
 Puts s here (Token k i e p) first used rs ps (put-variants.Token next used′ plain) rs′ ps′ = Written s here k i e p first used rs ps next used′ plain rs′ ps′
 Puts s here (Error n p) first used rs ps (put-variants.Token next used′ plain) rs′ ps′ = ⊥

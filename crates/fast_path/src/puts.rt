@@ -1,7 +1,7 @@
 // A token written from its action, where it is found, without an item being made of it.
 //
 // Proved: an action is left, and both buffers are what they were, or it is a token and is written as the definition's item is:
-// its record with its columns, its payload, and the state behind it (specs/Puts.antt).
+// its record with its columns, its payload, and the state after it (specs/Puts.antt).
 // Assumed: nothing but what each function's `requires` says: the action can be carried out where the reader stands, and both
 // buffers are written up to where the next record and payload begin.
 use definition::Match;
@@ -26,9 +26,9 @@ ghost use Rattle.record.specs.Numbers.{plain-item};
 ghost use Rattle.reader.specs.declared.actions.Action.the-variants.{Token};
 ghost use Rattle.fast_path.specs.Puts.{PairFits, TokenAsks, ActionAsks, Puts};
 
-// What became of an action: it was left, or it was a token and is written, behind which reading goes on with so many payload
+// What became of an action: it was left, or it was a token and is written, after which reading goes on with so many payload
 // bytes used and with a part of the text that is known to be ASCII.
-pub enum Put {
+pub enum PutResult {
     Left,
     Token {
         next: Cursor,
@@ -79,18 +79,18 @@ fn put_token(
     plain: AsciiRun,
     records: &mut [u32],
     bytes: &mut [u8],
-) -> Put
+) -> PutResult
     requires { ⌜ TokenAsks (now text) here from to payload first used plain (now records) (now bytes) ⌝ }
     ensures { λ r. ⌜ Puts (now (text .entry)) here (Token kind from to payload) first used (now (records .entry)) (now (bytes .entry)) r (now (records .exit)) (now (bytes .exit)) ⌝ }
 {
     if records.len() - first < RECORD {
-        return Put::Left;
+        return PutResult::Left;
     }
     let Match::To(size) = short_length(payload) else {
-        return Put::Left;
+        return PutResult::Left;
     };
     if bytes.len() - used < size {
-        return Put::Left;
+        return PutResult::Left;
     }
     let st = here.st;
     let known = here.known;
@@ -117,14 +117,14 @@ fn put_token(
         records,
         bytes,
     );
-    let behind = Cache {
+    let after = Cache {
         off: to as u32,
         col: cols.end,
     };
-    Put::Token {
+    PutResult::Token {
         next: Cursor {
             st: st.advance(to as u32),
-            known: behind,
+            known: after,
         },
         used: used + size,
         plain: ascii,
@@ -141,25 +141,25 @@ pub fn put_action(
     plain: AsciiRun,
     records: &mut [u32],
     bytes: &mut [u8],
-) -> Put
+) -> PutResult
     requires { ⌜ ActionAsks (now text) here action first used plain (now records) (now bytes) ⌝ }
     ensures { λ r. ⌜ Puts (now (text .entry)) here action first used (now (records .entry)) (now (bytes .entry)) r (now (records .exit)) (now (bytes .exit)) ⌝ }
 {
     let Action::Token {
         kind,
         from: begin,
-        end: behind,
+        end: to,
         payload,
     } = action
     else {
-        return Put::Left;
+        return PutResult::Left;
     };
     put_token(
         text,
         here,
         kind,
         begin,
-        behind,
+        to,
         payload,
         first,
         used,

@@ -21,7 +21,7 @@ pub fn class_buffer() -> [u8; 65537]
     [0; 65537]
 }
 
-// For a file's name, a text and a class file one behind the other.
+// For a file's name, a text and a class file one after the other.
 pub fn parts_buffer() -> [u8; 1118211]
     ensures { λ r. ⌜ 1118211 ≡ length r ⌝ }
 {

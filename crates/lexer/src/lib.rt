@@ -14,7 +14,7 @@ use fast_path::write_tokens;
 use position::Cache;
 use reader::Cursor;
 use refusal::refusal;
-use run_turn::Went;
+use run_turn::TurnResult;
 use run_turn::turn;
 ghost use mathlib.Core.Path.{_≡_};
 ghost use Rattle.definition.specs.State.{start};
@@ -62,7 +62,7 @@ fn run_items(
     let mut count: usize = 0;
     let mut used: usize = 0;
     loop {
-        let burst = write_tokens(
+        let written = write_tokens(
             text,
             classes,
             &ops,
@@ -73,9 +73,9 @@ fn run_items(
             records,
             payload,
         );
-        let last = burst.at;
-        let here = burst.here;
-        let ahead = burst.ahead;
+        let last = written.at;
+        let here = written.here;
+        let ahead = written.ahead;
         match turn(
             text,
             name,
@@ -83,25 +83,25 @@ fn run_items(
             last,
             here,
             ahead,
-            burst.count,
-            burst.used,
+            written.count,
+            written.used,
             records,
             payload,
         ) {
-            Went::Stop(stop) => {
+            TurnResult::Stop(stop) => {
                 let state = last.st;
                 return RunAnswer {
                     refusal: 0,
                     offset: 0,
                     stop: stop,
-                    count: burst.count as u32,
+                    count: written.count as u32,
                     state: state,
                 };
             }
-            Went::Wrote { next, used: filled } => {
+            TurnResult::Wrote { next, used: filled } => {
                 at = next;
                 used = filled;
-                count = burst.count + 1;
+                count = written.count + 1;
             }
         }
     }

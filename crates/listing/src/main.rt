@@ -4,7 +4,7 @@
 //
 // Proved: it ends; each run is the definition's (crate `lexer`), and what it leaves in the buffer to be written are the
 // definition's lines of its records, so that in all it is a line for each item (proofs/Whole.antt of crate `listing_lines`); the
-// number behind END is the count of all items, and REFUSED comes only where the first run is refused. What it writes for
+// number after END is the count of all items, and REFUSED comes only where the first run is refused. What it writes for
 // document 01's text is compared with the file stdout. Assumed: what `libc` and `os` declare of reading and writing; a read
 // that fails counts as the end of what is read. No contract says what `main` hands over to be written.
 use definition::State;

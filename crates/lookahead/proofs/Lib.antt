@@ -1,3 +1,3 @@
-pub mod SightLaws
+pub mod LookaheadLaws
 pub mod TurnLaws
 pub mod WhiteLaws

@@ -1,4 +1,4 @@
--- A turn of `next-token` that goes on, and where a reader stands behind white space. Rests on the laws of progress and of sound states.
+-- A turn of `next-token` that goes on, and where a reader stands after white space. Rests on the laws of progress and of sound states.
 use Prim.Native.Nat.{_-_, _<_}
 use native.Mathlib.Omega.{arith}
 use mathlib.Core.Path.{_≡_, refl, sym, _∙_}
@@ -17,10 +17,10 @@ use Rattle.laws_run.proofs.Steps.{token-turn-stands, token-falls, token-unroll}
 use Rattle.reader.specs.Described.{Turns}
 use Rattle.reader.specs.Standing.{Standing}
 use Rattle.reader.specs.declared.Cursor.{Cursor}
-use Rattle.reader.specs.declared.Turned.{Turned}
-use Rattle.reader.specs.declared.Turned.the-variants.{Again}
+use Rattle.reader.specs.declared.ReadResult.{ReadResult}
+use Rattle.reader.specs.declared.ReadResult.the-variants.{Again}
 use Rattle.reader.proofs.Turning.{turned-again}
-use Rattle.lookahead.specs.White.{Between, Passes, Behind}
+use Rattle.lookahead.specs.White.{Between, Passes, AfterWhite}
 use Rattle.lookahead.specs.declared.white_space.Passed.the-variants.{On}
 
 -- before the text's end a turn acts on the choice
@@ -29,7 +29,7 @@ unfolding token-turn
 turn-is s name f st c h q = rw (token-turn, lt-leb _ _ h, ← q)
 
 -- so what is done with the choice is what is done in the turn
-pub turn-acts : (s name f : Bytes) (st : State) (c : Choice) (t : Turned) → st .offset < length s → c ≡ select s f (st .offset) → Turns s name f (act s name f st c) t → Turns s name f (token-turn s name f st) t
+pub turn-acts : (s name f : Bytes) (st : State) (c : Choice) (t : ReadResult) → st .offset < length s → c ≡ select s f (st .offset) → Turns s name f (act s name f st c) t → Turns s name f (token-turn s name f st) t
 turn-acts s name f st c t h q d = rw (turn-is s name f st c h q) d
 
 -- a turn stands where it goes on, and has read something
@@ -60,13 +60,13 @@ turn-goes s name f st p h m t =
 
 -- ---- white space before a choice
 
-pub behind-starts : {s f : Bytes} {at : Cursor} → Between s f at → Behind s f at at
-behind-starts h = record { ready = h; same = λ name. refl; less = omega arith }
+pub after-white-starts : {s f : Bytes} {at : Cursor} → Between s f at → AfterWhite s f at at
+after-white-starts h = record { ready = h; same = λ name. refl; less = omega arith }
 
--- what is passed leads on behind it
-pub behind-on : {s f : Bytes} {first here next : Cursor} → Behind s f first here → Passes s f (here .st) (On next)
-    → Behind s f first next × (length s - next .st .offset < length s - here .st .offset)
-behind-on {s} {f} {first} {here} {next} b p =
+-- what is passed leads on after it
+pub after-white-on : {s f : Bytes} {first here next : Cursor} → AfterWhite s f first here → Passes s f (here .st) (On next)
+    → AfterWhite s f first next × (length s - next .st .offset < length s - here .st .offset)
+after-white-on {s} {f} {first} {here} {next} b p =
     let goes : (name : Bytes) → Goes s name f (here .st) next = λ name. turn-goes s name f (here .st) next (b .ready .standing .stands) (b .ready .between) (p name) in
     let g = goes [] in (
       record {

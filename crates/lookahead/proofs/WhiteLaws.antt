@@ -1,4 +1,4 @@
--- At a blank and at a line end of ASCII a turn goes on behind them. Rests on the laws of choices, of runs and of line ends.
+-- At a blank and at a line end of ASCII a turn goes on after them. Rests on the laws of choices, of runs and of line ends.
 use Prim.Native.Nat.{ℕ, _+_, _<_}
 use native.Mathlib.Omega.{arith}
 use mathlib.Core.Path.{_≡_, refl, sym, ap, subst, _∙_}
@@ -11,8 +11,7 @@ use Rattle.definition.specs.Text.{byte-has, star}
 use Rattle.definition.specs.Chars.{is-anywhite}
 use Rattle.definition.specs.Matchers.{_then_, plus, match-newline}
 use Rattle.definition.specs.Select.{found, select}
-use Rattle.definition.specs.Rules.{place-rules, rule-of}
-use Rattle.definition.specs.Token.{act}
+use Rattle.definition.specs.declared.Choice.{Choice}
 use Rattle.definition.specs.declared.Match.{Match}
 use Rattle.definition.specs.declared.Match.the-variants.{To}
 use Rattle.lemmas.proofs.Cases.{either}
@@ -26,9 +25,11 @@ use Rattle.star.proofs.WhiteLaws.{small-blank, ascii-white}
 use Rattle.select.proofs.First.{white-path, line-path}
 use Rattle.reader.specs.Cursors.{moved, next-line}
 use Rattle.reader.specs.declared.Cursor.{Cursor}
-use Rattle.reader.specs.declared.Turned.the-variants.{Again}
+use Rattle.reader.specs.declared.ReadResult.the-variants.{Again}
 use Rattle.reader.specs.Actions.{Chose}
-use Rattle.rules.proofs.RuleLaws.{moved-turns, line-turns}
+use Rattle.rule_table.specs.Rules.{rule-list}
+use Rattle.rule_table.specs.declared.table.Rule.the-variants.{White, Newline}
+use Rattle.rules.proofs.RuleLaws.{act-turns, moved-turns, line-turns}
 use Rattle.lookahead.specs.White.{Between, Passes}
 use Rattle.lookahead.specs.declared.white_space.Passed.the-variants.{On}
 use Rattle.lookahead.proofs.TurnLaws.{turn-acts}
@@ -70,7 +71,7 @@ module _ (s f : Bytes) (i : ℕ) where
 -- ---- what is passed
 
 module _ {s f : Bytes} {at : Cursor} (h : Between s f at) where
-  -- what a place chooses ends behind where the reader stands
+  -- what a place chooses ends after where the reader stands
   chose : {k e : ℕ} → select s f (at .st .offset) ≡ record { place = k; end = e; word = 0 } → eqb k 0 ≡ false → Chose s at e
   chose {k} {e} q z =
       let fits = subst (Fits s (at .st .offset)) q (select-fits s (at .st .offset) f) in
@@ -81,15 +82,19 @@ module _ {s f : Bytes} {at : Cursor} (h : Between s f at) where
   blank-chose t q = chose (blank-selects s f (at .st .offset) t q) refl
 
   pub blank-passes : {e : ℕ} {p : Cursor} → byte-has is-blank s (at .st .offset) ≡ true → e ≡ star (is-anywhite f) s (at .st .offset + 1) → p ≡ moved at e → Passes s f (at .st) (On p)
-  unfolding act rule-of place-rules
+  unfolding rule-list
   blank-passes {e} {p} t q m name =
-      turn-acts s name f (at .st) (record { place = 7; end = e; word = 0 }) (Again p) (byte-passes is-blank s (at .st .offset) t .0) (sym (blank-selects s f (at .st .offset) t q)) (moved-turns (blank-chose t q) m)
+      let c : Choice = record { place = 7; end = e; word = 0 } in
+      turn-acts s name f (at .st) c (Again p) (byte-passes is-blank s (at .st .offset) t .0) (sym (blank-selects s f (at .st .offset) t q))
+      (act-turns s name f (at .st) c White (Again p) (omega arith) refl (moved-turns (blank-chose t q) m))
 
   -- a line end
   pub line-chose : {e : ℕ} → byte-has is-line-end s (at .st .offset) ≡ true → match-newline s (at .st .offset) ≡ To e → Chose s at e
   line-chose t q = chose (line-selects s f (at .st .offset) t q) refl
 
   pub line-passes : {e : ℕ} {p : Cursor} → byte-has is-line-end s (at .st .offset) ≡ true → match-newline s (at .st .offset) ≡ To e → p ≡ next-line at e → Passes s f (at .st) (On p)
-  unfolding act rule-of place-rules
+  unfolding rule-list
   line-passes {e} {p} t q m name =
-      turn-acts s name f (at .st) (record { place = 8; end = e; word = 0 }) (Again p) (byte-passes is-line-end s (at .st .offset) t .0) (sym (line-selects s f (at .st .offset) t q)) (line-turns (line-chose t q) m)
+      let c : Choice = record { place = 8; end = e; word = 0 } in
+      turn-acts s name f (at .st) c (Again p) (byte-passes is-line-end s (at .st .offset) t .0) (sym (line-selects s f (at .st .offset) t q))
+      (act-turns s name f (at .st) c Newline (Again p) (omega arith) refl (line-turns (line-chose t q) m))

@@ -1,2 +1,2 @@
-pub mod Sights
+pub mod Lookahead
 pub mod White

@@ -9,7 +9,7 @@ use Rattle.definition.specs.declared.State.{State}
 use Rattle.reader.specs.Described.{Turns}
 use Rattle.reader.specs.Standing.{Standing}
 use Rattle.reader.specs.declared.Cursor.{Cursor}
-use Rattle.reader.specs.declared.Turned.the-variants.{Again}
+use Rattle.reader.specs.declared.ReadResult.the-variants.{Again}
 use Rattle.lookahead.specs.declared.white_space.Passed.{Passed}
 use Rattle.lookahead.specs.declared.white_space.Passed.the-variants.{On, Nothing}
 
@@ -25,7 +25,7 @@ Passes s f st (On p) = (name : Bytes) → Turns s name f (token-turn s name f st
 Passes s f st Nothing = Unit {0}
 
 -- a reader stands at r as one at `at` does, reads the same item from there, and has no more of the text before it
-pub record Behind (s f : Bytes) (at r : Cursor) : Type 0 where
+pub record AfterWhite (s f : Bytes) (at r : Cursor) : Type 0 where
   pub ready : Between s f r
   pub same : (name : Bytes) → next-token s name f (r .st) ≡ next-token s name f (at .st)
   pub less : length s - r .st .offset ≤ length s - at .st .offset

@@ -1,7 +1,7 @@
 // White space and line ends of ASCII, which are passed before a choice is made: nearly half of all choices would be of
 // them, and a choice costs far more than a byte.
 //
-// Proved: from behind what is passed the definition's `next-token` gives the same item, and the reader stands there with a
+// Proved: from after what is passed the definition's `next-token` gives the same item, and the reader stands there with a
 // column that is known.
 // Assumed: nothing but what each function's `requires` says: a reader stands in a sound state of a legal text, between
 // comments, and the class file is accepted.
@@ -13,9 +13,9 @@ use reader::cursors::moved;
 use reader::cursors::next_line;
 use star::blanks::blank_at;
 use star::blanks::star_anywhite;
-ghost use Rattle.lookahead.specs.White.{Between, Passes, Behind};
+ghost use Rattle.lookahead.specs.White.{Between, Passes, AfterWhite};
 
-// What is passed at a place: a run of white space or a line end, with the place behind it, or nothing.
+// What is passed at a place: a run of white space or a line end, with the place after it, or nothing.
 enum Passed {
     On(Cursor),
     Nothing,
@@ -40,10 +40,10 @@ fn past_white(text: &[u8], classes: &[u8], at: Cursor) -> Passed
     Passed::On(next_line(at, e))
 }
 
-// Where a reader stands behind white space and line ends that begin with ASCII.
-pub fn behind_white(text: &[u8], classes: &[u8], at: Cursor) -> Cursor
+// Where a reader stands after white space and line ends that begin with ASCII.
+pub fn after_white(text: &[u8], classes: &[u8], at: Cursor) -> Cursor
     requires { ⌜ Between (now text) (now classes) at ⌝ }
-    ensures { λ r. ⌜ Behind (now (text .entry)) (now (classes .entry)) at r ⌝ }
+    ensures { λ r. ⌜ AfterWhite (now (text .entry)) (now (classes .entry)) at r ⌝ }
 {
     let mut here = at;
     loop {

@@ -86,7 +86,7 @@ pub fn match_lit(text: &[u8], word: &[u8], i: usize) -> Match
     Match::To(at)
 }
 
-// The end of a literal behind what another matcher found.
+// The end of a literal after what another matcher found.
 pub fn lit_after(text: &[u8], m: Match, word: &[u8]) -> Match
     ensures { λ r. ⌜ r ≡ (m then match-lit (now (text .entry)) (now (word .entry))) ⌝ }
 {

@@ -1,5 +1,5 @@
 // Floats, reals, and numbers that go wrong. A digit of an integer or of a fraction is read once: what may follow them is
-// looked for behind their ends by the functions named `.._after`, which take these ends, and which `select` runs; the source's
+// looked for after their ends by the functions named `.._after`, which take these ends, and which `select` runs; the source's
 // `match_floatp`, `match_real` and `match_bad_number` are the same from an offset.
 //
 // Proved: the answer of each public function is what the definition gives, at any offset of any bytes.
@@ -21,7 +21,7 @@ ghost use Rattle.match_number.specs.FloatParts.{byte-end, fraction, real
 
 // ---- floats
 
-// The end of the byte b behind what another matcher found: a point behind digits is the source's `floatp_min`.
+// The end of the byte b after what another matcher found: a point after digits is the source's `floatp_min`.
 fn byte_after(text: &[u8], m: Match, b: u8) -> Match
     ensures { λ r. ⌜ r ≡ (m then byte-end b (now (text .entry))) ⌝ }
 {
@@ -34,7 +34,7 @@ fn byte_after(text: &[u8], m: Match, b: u8) -> Match
     Match::Nothing
 }
 
-// The end of a point and digits behind an integer's digits.
+// The end of a point and digits after an integer's digits.
 pub fn floatp_after(text: &[u8], digits: Match) -> Match
     ensures { λ r. ⌜ r ≡ (digits then fraction (now (text .entry))) ⌝ }
 {
@@ -50,7 +50,7 @@ pub fn match_floatp(text: &[u8], i: usize) -> Match
     floatp_after(text, match_integer(text, i))
 }
 
-// The offset behind an optional sign.
+// The offset after an optional sign.
 pub fn skip_sign(text: &[u8], k: usize) -> usize
     ensures { λ r. ⌜ r ≡ skip-sign (now (text .entry)) k ⌝ }
 {
@@ -60,7 +60,7 @@ pub fn skip_sign(text: &[u8], k: usize) -> usize
     k
 }
 
-// The end of an R behind a float.
+// The end of an R after a float.
 pub fn real_after(text: &[u8], float: Match) -> Match
     ensures { λ r. ⌜ r ≡ (float then real-end (now (text .entry))) ⌝ }
 {
@@ -99,7 +99,7 @@ fn short_exponent_after(text: &[u8], m: Match) -> Match
     short_exponent(text, k)
 }
 
-// The end of the shortest float with an exponent, behind an integer's digits or behind the fraction there: the source's
+// The end of the shortest float with an exponent, after an integer's digits or after the fraction there: the source's
 // `floate_min`.
 fn short_float(text: &[u8], digits: Match, float: Match) -> Match
     ensures { λ r. ⌜ r ≡ short-float (now (text .entry)) digits float ⌝ }
@@ -109,7 +109,7 @@ fn short_float(text: &[u8], digits: Match, float: Match) -> Match
     later(without_dot, with_dot)
 }
 
-// The end of the identifier characters behind a number's end.
+// The end of the identifier characters after a number's end.
 fn ident_chars_after(text: &[u8], file: &[u8], m: Match) -> Match
     requires { ⌜ class-check (now file) ≡ 0 ⌝ }
     ensures { λ r. ⌜ r ≡ (m then plus (is-ident-char (now (file .entry))) (now (text .entry))) ⌝ }
@@ -120,9 +120,9 @@ fn ident_chars_after(text: &[u8], file: &[u8], m: Match) -> Match
     plus_ident_char(text, file, e)
 }
 
-// The end of a number with identifier characters behind it, from the ends of its digits and of its fraction. "Since digits
+// The end of a number with identifier characters after it, from the ends of its digits and of its fraction. "Since digits
 // are ident chars, the shortest float matches are the relevant ones"; and since so are all characters of an integer with a
-// letter, what goes on behind it goes on behind its 0.
+// letter, what goes on after it goes on after its 0.
 pub fn bad_number_after(text: &[u8], file: &[u8], digits: Match, float: Match) -> Match
     requires { ⌜ class-check (now file) ≡ 0 ⌝ }
     ensures { λ r. ⌜ r ≡ bad-number-behind (now (text .entry)) (now (file .entry)) digits float ⌝ }

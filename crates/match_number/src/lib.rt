@@ -1,4 +1,4 @@
-// Integers with their suffixes. The digits of an integer are read once: a suffix is looked for behind their ends by the
+// Integers with their suffixes. The digits of an integer are read once: a suffix is looked for after their ends by the
 // functions named `.._after`, which take these ends, and which `select` runs; `match_int_suffix` and `match_int_usuffix`, the
 // source's functions, are the same from an offset.
 //
@@ -20,7 +20,7 @@ ghost use mathlib.Core.Path.{_≡_};
 ghost use Rattle.definition.specs.Matchers.{_then_, later, match-lit, match-integer, match-xinteger, match-int-suffix, match-int-usuffix};
 ghost use Rattle.match_number.specs.IntegerParts.{integer-ends, usuffix};
 
-// The end of an integer's digits, and that of the digits behind 0x, 0o or 0b: the source's `any_integer_ends`.
+// The end of an integer's digits, and that of the digits after 0x, 0o or 0b: the source's `any_integer_ends`.
 pub struct IntegerEnds {
     pub plain: Match,
     pub based: Match,
@@ -59,7 +59,7 @@ pub fn any_integer_ends(text: &[u8], i: usize) -> IntegerEnds
     }
 }
 
-// The end of a suffix behind either end of an integer.
+// The end of a suffix after either end of an integer.
 pub fn suffix_after(text: &[u8], ends: IntegerEnds, suffix: &[u8]) -> Match
     ensures { λ r. ⌜ r ≡ later (ends .plain then match-lit (now (text .entry)) (now (suffix .entry))) (ends .based then match-lit (now (text .entry)) (now (suffix .entry))) ⌝ }
 {
@@ -78,7 +78,7 @@ pub fn match_int_suffix(text: &[u8], i: usize, suffix: &[u8]) -> Match
     suffix_after(text, any_integer_ends(text, i), suffix)
 }
 
-// The end of a u or U and a suffix behind an end.
+// The end of a u or U and a suffix after an end.
 fn u_lit_after(text: &[u8], m: Match, suffix: &[u8]) -> Match
     ensures { λ r. ⌜ r ≡ (m then usuffix (now (text .entry)) (now (suffix .entry))) ⌝ }
 {
@@ -91,7 +91,7 @@ fn u_lit_after(text: &[u8], m: Match, suffix: &[u8]) -> Match
     Match::Nothing
 }
 
-// The end of a u or U and a suffix behind either end of an integer.
+// The end of a u or U and a suffix after either end of an integer.
 pub fn usuffix_after(text: &[u8], ends: IntegerEnds, suffix: &[u8]) -> Match
     ensures { λ r. ⌜ r ≡ later (ends .plain then usuffix (now (text .entry)) (now (suffix .entry))) (ends .based then usuffix (now (text .entry)) (now (suffix .entry))) ⌝ }
 {

@@ -1,6 +1,6 @@
 // The source's matchers of line ends, identifiers and constructors: from an offset of the text, the end of what is looked
 // for, or that it isn't there. (Those of quotes are the module `quoted`, those of numbers the crate `match_number`; where
-// `select` knows the first character, it reads on behind it without `match_constructor`.)
+// `select` knows the first character, it reads on after it without `match_constructor`.)
 //
 // Proved: the answer of each function is what the definition gives, at any offset of any bytes.
 // Assumed: nothing but what each function's `requires` says: a class file that `class_check` accepts where a class is

@@ -17,7 +17,7 @@ ghost use Rattle.definition.specs.Basics.{codes, mem-cp};
 ghost use Rattle.definition.specs.Matchers.{one, match-escape, match-char, match-char-lit, match-backtick-ident};
 ghost use Rattle.matchers.specs.Parts.{in-backticks, backtick-part, hex-pair};
 
-// A byte that makes an escape by itself, behind the backslash.
+// A byte that makes an escape by itself, after the backslash.
 fn is_escape_letter(c: u8) -> bool
     ensures { λ r. ⌜ r ≡ mem-cp c (codes "\\\"'bfntrv0") ⌝ }
 {
@@ -78,7 +78,7 @@ pub fn match_char(text: &[u8], i: usize) -> Match
     Match::To(i + width)
 }
 
-// The end of a character literal, with or without the B behind it.
+// The end of a character literal, with or without the B after it.
 pub fn match_char_lit(text: &[u8], i: usize, with_b: bool) -> Match
     ensures { λ r. ⌜ r ≡ match-char-lit (now (text .entry)) i «with_b» ⌝ }
 {
@@ -116,7 +116,7 @@ fn one_in_backticks(text: &[u8], i: usize) -> Match
     Match::To(i + width)
 }
 
-// The end of such a character, or of one behind a single backtick.
+// The end of such a character, or of one after a single backtick.
 fn backtick_part(text: &[u8], i: usize) -> Match
     ensures { λ r. ⌜ r ≡ backtick-part (now (text .entry)) i ⌝ }
 {

@@ -23,7 +23,7 @@ fn strips(b: u8) -> bool
     }
 }
 
-// Where the number begins, behind such letters.
+// Where the number begins, after such letters.
 fn strip_left(lexeme: &[u8]) -> usize
     ensures { λ r. ⌜ LeftStripped (now (lexeme .entry)) r ⌝ }
 {

@@ -1,5 +1,5 @@
 // The decimal digits of a number.
-// Proved: the digits and their number are what the definition's `show` says; the writer changes nothing behind the digits
+// Proved: the digits and their number are what the definition's `show` says; the writer changes nothing after the digits
 // that it writes.
 // Assumed: of `show_into` that the digits fit.
 ghost use mathlib.Core.Path.{_≡_};

@@ -53,7 +53,7 @@ fn write_file_line(name: &[u8], line: u32, out: &mut [u8])
     write_mark(line, &mut out[n..]);
 }
 
-// Writes two parts of the text, one behind the other.
+// Writes two parts of the text, one after the other.
 fn write_parts(text: &[u8], from: usize, to: usize, contents: usize, end: usize, out: &mut [u8])
     requires { ⌜ ((to ≤ length (now text)) × (end ≤ length (now text))) × ((to - from) + (end - contents) ≤ length (now out)) ⌝ }
     ensures { λ r. ⌜ now (out .exit) ≡ over (slice from to (now (text .entry)) ++ slice contents end (now (text .entry))) (now (out .entry)) ⌝ }

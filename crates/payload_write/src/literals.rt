@@ -1,6 +1,6 @@
 // What string literals hold, written: the second pass over a literal whose length is known.
 //
-// Proved: what is written is the definition's literal, and nothing behind it is changed.
+// Proved: what is written is the definition's literal, and nothing after it is changed.
 // Assumed: nothing but what the `requires` says: the class file is accepted, the length is the literal's, and it fits.
 use read_string::moves::Move;
 use read_string::moves::end_of;
@@ -44,7 +44,7 @@ fn put(text: &[u8], m: Move, i: usize, out: &mut [u8]) -> usize
     }
 }
 
-// Writes what the literal holds whose first byte behind the quote is at `from`, `length` bytes, to the front of the buffer.
+// Writes what the literal holds whose first byte after the quote is at `from`, `length` bytes, to the front of the buffer.
 pub fn write_literal(text: &[u8], classes: &[u8], from: usize, length: usize, out: &mut [u8])
     requires { ⌜ Writes (now text) (now classes) from length (now out) ⌝ }
     ensures { λ r. ⌜ now (out .exit) ≡ over (literal (now (text .entry)) (now (classes .entry)) from) (now (out .entry)) ⌝ }

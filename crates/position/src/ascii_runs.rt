@@ -44,7 +44,7 @@ fn ascii_from(text: &[u8], i: usize) -> usize
 }
 
 // A run of ASCII that may hold the bytes from the known offset up to `to`: the one given where it reaches so far, else one that
-// is looked for behind the known offset.
+// is looked for after the known offset.
 pub fn ascii_run(text: &[u8], known: Cache, plain: AsciiRun, to: usize) -> AsciiRun
     requires { ⌜ Plain (now text) plain ⌝ }
     ensures { λ r. ⌜ Plain (now (text .entry)) r ⌝ }
@@ -59,7 +59,7 @@ pub fn ascii_run(text: &[u8], known: Cache, plain: AsciiRun, to: usize) -> Ascii
     }
 }
 
-// Whether a token from `from` up to `to` stands behind the known offset, and the run of ASCII holds all the bytes from there on.
+// Whether a token from `from` up to `to` stands after the known offset, and the run of ASCII holds all the bytes from there on.
 fn covers(plain: AsciiRun, known: Cache, from: u32, to: u32) -> bool
     ensures { λ r. ⌜ (r ≡ true → Covers plain known from to) ⌝ }
 {

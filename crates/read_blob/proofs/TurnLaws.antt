@@ -23,8 +23,8 @@ use Rattle.laws_run.specs.Going.{blob-from, lang-from}
 use Rattle.laws_run.proofs.BlobReader.{blob-unroll, blob-is, lang-unroll, lang-is, blob-falls, lang-falls, blob-turn-stands, lang-turn-stands}
 use Rattle.laws_run.proofs.Moving.{stands-clean, stands-within}
 use Rattle.reader.specs.declared.Cursor.{Cursor}
-use Rattle.reader.specs.declared.Turned.{Turned}
-use Rattle.reader.specs.declared.Turned.the-variants.{Done, Again}
+use Rattle.reader.specs.declared.ReadResult.{ReadResult}
+use Rattle.reader.specs.declared.ReadResult.the-variants.{Done, Again}
 use Rattle.reader.specs.Cursors.{moved, next-line}
 use Rattle.reader.proofs.Standing.{known-kept, known-line}
 use Rattle.reader.proofs.Turning.{turned-done, turned-again}
@@ -79,7 +79,7 @@ module _ (s : Bytes) (from : ℕ) (h : source.Header) (st : State) where
       (turn-does lang ∙ ap (does s lang from h st) e) (turn-stands lang k z)
 
   -- what is made of what stands there is what the turn is
-  pub move-turns : (name f : Bytes) (lang : Bool) (m : Move) (r : Turned) → move-at s lang (st .offset) ≡ m
+  pub move-turns : (name f : Bytes) (lang : Bool) (m : Move) (r : ReadResult) → move-at s lang (st .offset) ≡ m
       → Turns s name f (does s lang from h st m) r → Turns s name f (contents-turn s lang from h st) r
   move-turns name f lang m r e k =
       subst (λ (t : Turn State Step). Turns s name f t r) (sym (turn-does lang ∙ ap (does s lang from h st) e)) k

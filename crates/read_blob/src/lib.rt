@@ -15,7 +15,7 @@ use position::pos_of;
 use reader::Cursor;
 use reader::Payload;
 use reader::Read;
-use reader::Turned;
+use reader::ReadResult;
 use reader::cursors::moved;
 use reader::cursors::next_line;
 use reader::span;
@@ -160,23 +160,23 @@ fn closed(text: &[u8], header: Header, lang: bool, from: usize, at: Cursor, e: u
 }
 
 // One turn of the reading.
-fn turn(text: &[u8], name: &[u8], header: Header, lang: bool, from: usize, at: Cursor) -> Turned
+fn turn(text: &[u8], name: &[u8], header: Header, lang: bool, from: usize, at: Cursor) -> ReadResult
     requires { ⌜ InBlob (now text) header from at ⌝ }
     ensures { λ r. ⌜ ((f : Bytes) → Turns (now (text .entry)) (now (name .entry)) f (contents-turn (now (text .entry)) lang from (header-of (now (text .entry)) header) (at .st)) r) ⌝ }
 {
     let st = at.st;
     let known = at.known;
     match move_at(text, lang, st.offset as usize) {
-        Move::Close(e) => Turned::Done(closed(text, header, lang, from, at, e)),
-        Move::Open => Turned::Done(error_here(
+        Move::Close(e) => ReadResult::Done(closed(text, header, lang, from, at, e)),
+        Move::Open => ReadResult::Done(error_here(
             text,
             name,
             st,
             known,
             definition::errors::UNTERMINATED_EXTENSION_SYNTAX,
         )),
-        Move::Line(e) => Turned::Again(next_line(at, e)),
-        Move::On(e) => Turned::Again(moved(at, e)),
+        Move::Line(e) => ReadResult::Again(next_line(at, e)),
+        Move::On(e) => ReadResult::Again(moved(at, e)),
     }
 }
 
@@ -190,17 +190,17 @@ fn read_contents(text: &[u8], name: &[u8], header: Header, lang: bool, at: Curso
     let mut here = at;
     loop {
         match turn(text, name, header, lang, from, here) {
-            Turned::Done(r) => {
+            ReadResult::Done(r) => {
                 return r;
             }
-            Turned::Again(next) => {
+            ReadResult::Again(next) => {
                 here = next;
             }
         }
     }
 }
 
-// The source's `blob`, from behind its header.
+// The source's `blob`, from after its header.
 pub fn blob(text: &[u8], name: &[u8], header: Header, at: Cursor) -> Read
     requires { ⌜ InBlob (now text) header (at .st .offset) at ⌝ }
     ensures { λ r. ⌜ ((f : Bytes) → Reads (now (text .entry)) (now (name .entry)) f (blob (now (text .entry)) (header-of (now (text .entry)) header) (at .st)) r) ⌝ }
@@ -208,7 +208,7 @@ pub fn blob(text: &[u8], name: &[u8], header: Header, at: Cursor) -> Read
     read_contents(text, name, header, false, at)
 }
 
-// The source's `use_lang`, from behind its header.
+// The source's `use_lang`, from after its header.
 pub fn use_lang(text: &[u8], name: &[u8], header: Header, at: Cursor) -> Read
     requires { ⌜ InBlob (now text) header (at .st .offset) at ⌝ }
     ensures { λ r. ⌜ ((f : Bytes) → Reads (now (text .entry)) (now (name .entry)) f (use-lang (now (text .entry)) (header-of (now (text .entry)) header) (at .st)) r) ⌝ }

@@ -14,8 +14,8 @@ use Rattle.laws_run.proofs.Moving.{stands-clean}
 use Rattle.reader.specs.Described.{Reads}
 use Rattle.reader.specs.declared.Cursor.{Cursor}
 use Rattle.reader.specs.declared.Read.{Read}
-use Rattle.reader.specs.declared.Turned.{Turned}
-use Rattle.reader.specs.declared.Turned.the-variants.{Done, Again}
+use Rattle.reader.specs.declared.ReadResult.{ReadResult}
+use Rattle.reader.specs.declared.ReadResult.the-variants.{Done, Again}
 use Rattle.reader.proofs.Turning.{GoesOn, turned-done, turned-again}
 use Rattle.read_comment.specs.LineCommentContracts.{ReadsAny}
 use Rattle.read_comment.specs.CommentContracts.{InComment, TurnsAny}
@@ -33,7 +33,7 @@ module _ {s : Bytes} {from : ℕ} {first here : Cursor} (g : Going s from first 
   clean = stands-clean (g .inside .standing .stands)
 
   -- What a turn has read is what the comment gives.
-  pub going-ends : {m : Turned} {r : Read} → m ≡ Done r → TurnsAny s (comment-turn s from (here .st)) m → ReadsAny s (comment s from (first .st)) r
+  pub going-ends : {m : ReadResult} {r : Read} → m ≡ Done r → TurnsAny s (comment-turn s from (here .st)) m → ReadsAny s (comment s from (first .st)) r
   going-ends {m} {r} e h name f =
       subst (λ t. Reads s name f t r) (sym (comment-unroll s from (here .st) (clean, g .inside .mode)) ∙ g .same)
       (turned-done s name f (comment-turn s from (here .st)) (comment s from) r ((rw e at h) name f))
@@ -48,7 +48,7 @@ module _ {s : Bytes} {from : ℕ} {first here : Cursor} (g : Going s from first 
       (comment-turn-stands s from (here .st) (g .inside .standing .stands) (g .inside .mode))
       (comment-falls s from .at (here .st) (clean, g .inside .mode))
 
-  module _ {m : Turned} {p : Cursor} (e : m ≡ Again p) (h : TurnsAny s (comment-turn s from (here .st)) m) where
+  module _ {m : ReadResult} {p : Cursor} (e : m ≡ Again p) (h : TurnsAny s (comment-turn s from (here .st)) m) where
     on : GoesOn s [] [] Kept (comment-turn s from (here .st)) (comment s from) p
     on = turned-again s [] [] Kept Any (comment-turn s from (here .st)) (comment s from) p kept ((rw e at h) [] [])
 

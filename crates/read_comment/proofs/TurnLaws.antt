@@ -22,7 +22,7 @@ use Rattle.reader.specs.Described.{Known-at}
 use Rattle.reader.specs.Cursors.{moved, next-line}
 use Rattle.reader.specs.declared.Cursor.{Cursor}
 use Rattle.reader.specs.declared.Read.{Read}
-use Rattle.reader.specs.declared.Turned.the-variants.{Done, Again}
+use Rattle.reader.specs.declared.ReadResult.the-variants.{Done, Again}
 use Rattle.reader.proofs.Standing.{known-line, known-kept}
 use Rattle.read_comment.specs.LineCommentContracts.{ReadsAny}
 use Rattle.read_comment.specs.CommentContracts.{InComment, AtStop, AtMark, Ending, TurnsAny}

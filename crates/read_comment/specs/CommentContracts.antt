@@ -14,10 +14,10 @@ use Rattle.definition.specs.declared.Match.the-variants.{Nothing}
 use Rattle.reader.specs.Described.{Turns}
 use Rattle.reader.specs.Standing.{Standing}
 use Rattle.reader.specs.declared.Cursor.{Cursor}
-use Rattle.reader.specs.declared.Turned.{Turned}
+use Rattle.reader.specs.declared.ReadResult.{ReadResult}
 
 -- r is what the turn t gives
-abbrev pub TurnsAny : Bytes → Turn State Step → Turned → Type 0
+abbrev pub TurnsAny : Bytes → Turn State Step → ReadResult → Type 0
 TurnsAny s t r = (name f : Bytes) → Turns s name f t r
 
 -- a reader stands in a comment

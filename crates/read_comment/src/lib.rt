@@ -17,7 +17,7 @@ use position::pos_of;
 use reader::Cursor;
 use reader::Payload;
 use reader::Read;
-use reader::Turned;
+use reader::ReadResult;
 use reader::cursors::moved;
 use reader::cursors::next_line;
 use star::stops::after;
@@ -28,7 +28,7 @@ ghost use Rattle.definition.specs.Comment.{terminate, comment-turn, comment};
 ghost use Rattle.read_comment.specs.LineCommentContracts.{ReadsAny};
 ghost use Rattle.read_comment.specs.CommentContracts.{InComment, AtStop, AtMark, Ending, TurnsAny};
 
-// The piece that began at byte `from` and whose text ends at byte `to`; the reader stands behind it.
+// The piece that began at byte `from` and whose text ends at byte `to`; the reader stands after it.
 fn terminate(text: &[u8], from: usize, to: usize, closed: bool, at: Cursor) -> Read
     requires { ⌜ Ending (now text) to at ⌝ }
     ensures { λ r. ⌜ ReadsAny (now (text .entry)) (terminate (now (text .entry)) from to closed (at .st)) r ⌝ }
@@ -66,23 +66,23 @@ fn terminate(text: &[u8], from: usize, to: usize, closed: bool, at: Cursor) -> R
 
 // Where neither a run stands nor a level is opened nor a line ends: a level may be closed, or the text may end; else a
 // single `(` or `*` is passed.
-fn at_mark(text: &[u8], from: usize, at: Cursor) -> Turned
+fn at_mark(text: &[u8], from: usize, at: Cursor) -> ReadResult
     requires { ⌜ AtMark (now text) at ⌝ }
     ensures { λ r. ⌜ TurnsAny (now (text .entry)) (comment-turn (now (text .entry)) from (at .st)) r ⌝ }
 {
     let st = at.st;
     let i = st.offset as usize;
     if byte_pair(text, i, b'*', b')') {
-        return Turned::Done(terminate(text, from, i, true, moved(at, i + 2)));
+        return ReadResult::Done(terminate(text, from, i, true, moved(at, i + 2)));
     }
     if text.len() <= i {
-        return Turned::Done(terminate(text, from, i, false, at));
+        return ReadResult::Done(terminate(text, from, i, false, at));
     }
-    Turned::Again(moved(at, after(text, i)))
+    ReadResult::Again(moved(at, after(text, i)))
 }
 
 // Where no run of other characters stands: a level may be opened, or a line may end.
-fn at_stop(text: &[u8], from: usize, at: Cursor) -> Turned
+fn at_stop(text: &[u8], from: usize, at: Cursor) -> ReadResult
     requires { ⌜ AtStop (now text) at ⌝ }
     ensures { λ r. ⌜ TurnsAny (now (text .entry)) (comment-turn (now (text .entry)) from (at .st)) r ⌝ }
 {
@@ -92,7 +92,7 @@ fn at_stop(text: &[u8], from: usize, at: Cursor) -> Turned
         let inside = moved(at, i + 2);
         let opened = inside.st;
         let known = inside.known;
-        return Turned::Again(Cursor {
+        return ReadResult::Again(Cursor {
             st: opened.deeper(),
             known: known,
         });
@@ -100,11 +100,11 @@ fn at_stop(text: &[u8], from: usize, at: Cursor) -> Turned
     let Match::To(nl) = match_newline(text, i) else {
         return at_mark(text, from, at);
     };
-    Turned::Again(next_line(at, nl))
+    ReadResult::Again(next_line(at, nl))
 }
 
 // One turn of the reading: a run of other characters is passed whole.
-fn comment_turn(text: &[u8], from: usize, at: Cursor) -> Turned
+fn comment_turn(text: &[u8], from: usize, at: Cursor) -> ReadResult
     requires { ⌜ InComment (now text) at ⌝ }
     ensures { λ r. ⌜ TurnsAny (now (text .entry)) (comment-turn (now (text .entry)) from (at .st)) r ⌝ }
 {
@@ -112,7 +112,7 @@ fn comment_turn(text: &[u8], from: usize, at: Cursor) -> Turned
     let i = st.offset as usize;
     let j = run_end(text, b'(', b'*', i);
     if i < j {
-        return Turned::Again(moved(at, j));
+        return ReadResult::Again(moved(at, j));
     }
     at_stop(text, from, at)
 }
@@ -125,10 +125,10 @@ pub fn comment(text: &[u8], from: usize, at: Cursor) -> Read
     let mut here = at;
     loop {
         match comment_turn(text, from, here) {
-            Turned::Done(r) => {
+            ReadResult::Done(r) => {
                 return r;
             }
-            Turned::Again(next) => {
+            ReadResult::Again(next) => {
                 here = next;
             }
         }

@@ -19,7 +19,7 @@ use Rattle.laws_run.proofs.StringReader.{string-unroll, string-is, string-turn-
 use Rattle.laws_run.proofs.Moving.{stands-within}
 use Rattle.reader.specs.declared.Cursor.{Cursor}
 use Rattle.reader.specs.declared.Read.{Read}
-use Rattle.reader.specs.declared.Turned.the-variants.{Done, Again}
+use Rattle.reader.specs.declared.ReadResult.the-variants.{Done, Again}
 use Rattle.reader.specs.Described.{Known-at, Reads, Turns}
 use Rattle.reader.specs.Standing.{Standing}
 use Rattle.read_string.specs.declared.moves.Move.{Move}

@@ -19,7 +19,7 @@ use Rattle.reader.specs.declared.Payload.{Payload}
 use Rattle.reader.specs.declared.Payload.the-variants.{Part, Literal}
 use Rattle.reader.specs.declared.Cursor.{Cursor}
 use Rattle.reader.specs.declared.Read.{Read}
-use Rattle.reader.specs.declared.Turned.{Turned}
+use Rattle.reader.specs.declared.ReadResult.{ReadResult}
 use Rattle.reader.specs.Described.{literal, Sized, Describes, Known-at, Reads, Turns}
 use Rattle.reader.specs.Cursors.{moved, next-line}
 use Rattle.reader.specs.Standing.{Standing}
@@ -88,6 +88,6 @@ module _ {s : Bytes} {at : Cursor} (h : Standing s (at .st) (at .known)) {e : �
   line-known c = rw c (refl, known-line s (at .st) e)
 
 -- what is made of a move is what the turn is
-pub move-turns : (s name : Bytes) (sp : Pos) (st : State) (m : Move) (r : Turned) (k : Move) → m ≡ k → (f acc : Bytes)
+pub move-turns : (s name : Bytes) (sp : Pos) (st : State) (m : Move) (r : ReadResult) (k : Move) → m ≡ k → (f acc : Bytes)
     → Turns s name f (states (does s sp st acc k)) r → Turns s name f (states (does s sp st acc m)) r
 move-turns s name sp st m r k e f acc h = subst (λ (x : Move). Turns s name f (states (does s sp st acc x)) r) (sym e) h

@@ -1,4 +1,4 @@
-// String literals: the source's `string_lit`, which reads one from behind its quote.
+// String literals: the source's `string_lit`, which reads one from after its quote.
 //
 // Proved: what is read is what the definition's `string-lit` gives: item, payload and state. The payload is a part of the
 // text where the literal stands there as it is, and is told by where it begins otherwise.
@@ -17,7 +17,7 @@ use position::pos_of;
 use reader::Cursor;
 use reader::Payload;
 use reader::Read;
-use reader::Turned;
+use reader::ReadResult;
 use reader::cursors::moved;
 use reader::cursors::next_line;
 use reader::span;
@@ -72,26 +72,34 @@ fn close(text: &[u8], name: &[u8], from: usize, count: usize, at: Cursor, sp: Po
 }
 
 // One turn of the reading: what is done with what stands where the reader does.
-fn turn(text: &[u8], name: &[u8], from: usize, count: usize, at: Cursor, sp: Pos, m: Move) -> Turned
+fn turn(
+    text: &[u8],
+    name: &[u8],
+    from: usize,
+    count: usize,
+    at: Cursor,
+    sp: Pos,
+    m: Move,
+) -> ReadResult
     requires { ⌜ Turning (now text) count at sp m ⌝ }
     ensures { λ r. ⌜ ((f acc : Bytes) → string-move (now (text .entry)) f (at .st .offset) ≡ m → Held (now (text .entry)) f from (at .st .offset) count acc → Turns (now (text .entry)) (now (name .entry)) f (states (does (now (text .entry)) sp (at .st) acc m)) r) ⌝ }
 {
     let st = at.st;
     let known = at.known;
     match m {
-        Move::Copy(e) => Turned::Again(moved(at, e)),
-        Move::Skip(e) => Turned::Again(next_line(at, e)),
-        Move::Line(e) => Turned::Again(next_line(at, e)),
-        Move::Char(_, e) => Turned::Again(moved(at, e)),
-        Move::Surrogate => Turned::Done(error_here(
+        Move::Copy(e) => ReadResult::Again(moved(at, e)),
+        Move::Skip(e) => ReadResult::Again(next_line(at, e)),
+        Move::Line(e) => ReadResult::Again(next_line(at, e)),
+        Move::Char(_, e) => ReadResult::Again(moved(at, e)),
+        Move::Surrogate => ReadResult::Done(error_here(
             text,
             name,
             st,
             known,
             definition::errors::SURROGATE,
         )),
-        Move::Close(e) => Turned::Done(close(text, name, from, count, at, sp, e)),
-        Move::Open => Turned::Done(error_here(
+        Move::Close(e) => ReadResult::Done(close(text, name, from, count, at, sp, e)),
+        Move::Open => ReadResult::Done(error_here(
             text,
             name,
             st,
@@ -101,7 +109,7 @@ fn turn(text: &[u8], name: &[u8], from: usize, count: usize, at: Cursor, sp: Pos
     }
 }
 
-// The source's `string_lit`, from behind the opening quote; sp is where that stands.
+// The source's `string_lit`, from after the opening quote; sp is where that stands.
 pub fn string_lit(text: &[u8], name: &[u8], classes: &[u8], at: Cursor, sp: Pos) -> Read
     requires { ⌜ Reader (now text) (now classes) at ⌝ }
     ensures { λ r. ⌜ Reads (now (text .entry)) (now (name .entry)) (now (classes .entry)) (string-lit (now (text .entry)) (now (classes .entry)) (at .st) sp) r ⌝ }
@@ -115,10 +123,10 @@ pub fn string_lit(text: &[u8], name: &[u8], classes: &[u8], at: Cursor, sp: Pos)
         let i = st.offset as usize;
         let m = string_move(text, classes, i);
         match turn(text, name, from, count, here, sp, m) {
-            Turned::Done(r) => {
+            ReadResult::Done(r) => {
                 return r;
             }
-            Turned::Again(next) => {
+            ReadResult::Again(next) => {
                 here = next;
                 count += added(m, i);
             }

@@ -1,7 +1,7 @@
 // What stands at an offset of a string literal.
 //
 // Proved: what is found at an offset is what the specification says (specs/Moves.antt), whose cases are those of the
-// definition's `string-turn`; it ends behind the offset and within the text, and an escape stands for fewer bytes than it
+// definition's `string-turn`; it ends after the offset and within the text, and an escape stands for fewer bytes than it
 // has. How many bytes a move adds to the literal, and where it ends, are what specs/Ends.antt says.
 // Assumed: nothing but what `string_move` requires: the class file is accepted.
 use definition::Match;
@@ -19,11 +19,11 @@ ghost use Rattle.definition.specs.ClassFile.{class-check};
 ghost use Rattle.read_string.specs.Moves.{escape-move, last-move, stop-move, broken-line, string-move};
 ghost use Rattle.read_string.specs.Ends.{added, ends-at};
 
-// What stands at an offset of a literal. A number at the end of a variant is the offset behind it.
+// What stands at an offset of a literal. A number at the end of a variant is the offset after it.
 pub enum Move {
     // Bytes that stand for themselves.
     Copy(usize),
-    // A backslash, a line's end, and the white space behind it, which stand for nothing.
+    // A backslash, a line's end, and the white space after it, which stand for nothing.
     Skip(usize),
     // A line's end, which stands for itself.
     Line(usize),

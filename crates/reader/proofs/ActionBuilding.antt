@@ -35,7 +35,7 @@ module _ {s name : Bytes} {at : Cursor} {i e : ℕ} {p : Payload} (h : Spans s n
       let w : e ≤ length s = stands-within (h .next) in
       omega (arith, h .next .short)
 
-  -- the end's position is asked for behind the start's
+  -- the end's position is asked for after the start's
   pub span-asked : (start : Located) → start ≡ located s (at .st) i → Asked one-each s (at .st) (start .known) e
   span-asked start q = asks (asked-stands start (h .standing) (h .from) q) e (h .next .sound .order) (stands-within (h .next))
 

@@ -25,7 +25,7 @@ short-long name (Literal from m) n e = cc
 short-long name (Piece from to width m) n e = cc
 short-long name (Blob from to contents end) n e = cc
 
--- the cases behind the first two, which are a part of the text and a text of the tables
+-- the cases after the first two, which are a part of the text and a text of the tables
 abbrev pub others : List ℕ
 others = 2 ∷ 3 ∷ 4 ∷ 5 ∷ 6 ∷ 7 ∷ 8 ∷ []
 

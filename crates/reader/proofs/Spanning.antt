@@ -33,9 +33,9 @@ pub nothing-sized : {name : Bytes} → Sized name (Part 0 0)
 nothing-sized = record { listed = tt; small = omega arith }
 
 module _ {s : Bytes} {at : Cursor} {e : ℕ} (h : Chose s at e) where
-  -- behind the choice reading stands
-  pub behind : Stands s (advance (at .st) e)
-  behind = walk-stands (h .standing .stands) (h .onward .walk)
+  -- after the choice reading stands
+  pub after-choice : Stands s (advance (at .st) e)
+  after-choice = walk-stands (h .standing .stands) (h .onward .walk)
 
   -- on the same line
   pub same-line : at .st .bol ≤ e
@@ -57,8 +57,8 @@ module _ {s : Bytes} {at : Cursor} {e : ℕ} (h : Chose s at e) where
 
   -- so at the choice's end
   pub spans : {name : Bytes} {p : Payload} → Sized name p → Spans s name at (at .st .offset) e p
-  spans z = spans-to behind z
+  spans z = spans-to after-choice z
 
-  -- the positions of the choice's ends are asked for one behind the other
+  -- the positions of the choice's ends are asked for one after the other
   pub end-asked : (start : Located) → start ≡ located s (at .st) (at .st .offset) → Asked one-each s (at .st) (start .known) e
   end-asked start q = asks (asked-stands start (h .standing) (h .standing .stands .sound .order) q) e same-line (h .onward .within)

@@ -7,7 +7,7 @@ use Rattle.definition.specs.declared.State.{State}
 use Rattle.lemmas.proofs.Loops.{says, Leads}
 use Rattle.reader.specs.declared.Read.{Read}
 use Rattle.reader.specs.declared.Cursor.{Cursor}
-use Rattle.reader.specs.declared.Turned.the-variants.{Done, Again}
+use Rattle.reader.specs.declared.ReadResult.the-variants.{Done, Again}
 use Rattle.reader.specs.Described.{Known-at, Reads, Turns}
 
 module _ (s name f : Bytes) where

@@ -19,8 +19,8 @@ use Rattle.position.specs.declared.Cache.{Cache}
 use Rattle.definition.specs.declared.State.{State}
 use Rattle.definition.specs.declared.Match.{Match}
 use Rattle.definition.specs.declared.Match.the-variants.{To, Nothing}
-use Rattle.reader.specs.declared.Turned.{Turned}
-use Rattle.reader.specs.declared.Turned.the-variants.{Done, Again}
+use Rattle.reader.specs.declared.ReadResult.{ReadResult}
+use Rattle.reader.specs.declared.ReadResult.the-variants.{Done, Again}
 use Rattle.reader.specs.declared.Payload.{Payload}
 use Rattle.reader.specs.declared.Payload.the-variants.{Part, Text, Greater, Name, Line, FileLine, Literal, Piece, Blob}
 use Rattle.reader.specs.declared.Read.{Read}
@@ -121,7 +121,7 @@ pub record Reads (s name f : Bytes) (t : Step) (r : Read) : Type 0 where
   pub known : Known-at s (t .next) (r .known)
 
 -- a turn of a reader: it goes on from a state with a column that is known there, or it has read what the definition's turn answers
-abbrev pub Turns : Bytes → Bytes → Bytes → Turn State Step → Turned → Type 0
+abbrev pub Turns : Bytes → Bytes → Bytes → Turn State Step → ReadResult → Type 0
 Turns s name f (again b) (Again place) = (place .st ≡ b) × Known-at s b (place .known)
 Turns s name f (again b) (Done r) = ⊥
 Turns s name f (done t) (Again place) = ⊥

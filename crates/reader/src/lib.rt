@@ -39,12 +39,12 @@ pub enum Payload {
     Line(u32),
     // The file's name, and a line's number in parentheses.
     FileLine(u32),
-    // What a string literal holds whose first byte behind the quote is at `from`.
+    // What a string literal holds whose first byte after the quote is at `from`.
     Literal {
         from: usize,
         length: usize,
     },
-    // A piece of a comment, a part of the text with `*)` behind it, each line without its first `width` bytes.
+    // A piece of a comment, a part of the text with `*)` after it, each line without its first `width` bytes.
     Piece {
         from: usize,
         to: usize,
@@ -75,7 +75,7 @@ pub struct Cursor {
 }
 
 // What a turn of a reader answers: what it has read, or where it goes on.
-pub enum Turned {
+pub enum ReadResult {
     Done(Read),
     Again(Cursor),
 }

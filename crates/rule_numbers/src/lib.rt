@@ -3,7 +3,7 @@
 // Proved: each function's action stands for what the definition's rule gives (crates/definition/specs/Token.antt): item,
 // payload and state. No payload is copied: each is a part of the text.
 // Assumed: nothing but what each function's `requires` says: a reader stands in a sound state of a legal text, and the
-// choice ends behind it (`Chose`; `bad_number`, which isn't lent the text, promises what it does where that holds).
+// choice ends after it (`Chose`; `bad_number`, which isn't lent the text, promises what it does where that holds).
 use definition::kinds::UINT8;
 use number_value::above_255;
 use number_value::cleaning::Part;

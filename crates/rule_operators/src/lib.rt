@@ -3,7 +3,7 @@
 // Proved: each function's action stands for what the definition's rule gives (crates/definition/specs/Token.antt): item,
 // payload and state. No payload is copied: each is a part of the text, or a `>` and a part.
 // Assumed: nothing but what each function's `requires` says: a reader stands in a sound state of a legal text, and the
-// choice ends behind it (`Chose`).
+// choice ends after it (`Chose`).
 use definition::kinds::OPINFIX0C;
 use match_lit::no_comment;
 use reader::Cursor;
@@ -18,7 +18,7 @@ ghost use Rattle.definition.specs.Tables.{kw-op-entry};
 ghost use Rattle.definition.specs.Token.{kw-op, gt, op};
 ghost use Rattle.reader.specs.Actions.{Chose, Rules, RulesOf};
 
-// A keyword and the operator characters behind it, or the keyword by itself where the cut leaves none of them.
+// A keyword and the operator characters after it, or the keyword by itself where the cut leaves none of them.
 pub fn kw_op(text: &[u8], at: Cursor, e: usize, word: usize) -> Action
     requires { ⌜ Chose (now text) at e × (word < 9) ⌝ }
     ensures { λ r. ⌜ ((name : Bytes) → Rules (now (text .entry)) name at e (kw-op (now (text .entry)) (at .st) e (kw-op-entry word)) r) ⌝ }
@@ -44,7 +44,7 @@ pub fn kw_op(text: &[u8], at: Cursor, e: usize, word: usize) -> Action
     }
 }
 
-// `>` and symbol characters: the token begins behind the `>`, and its text has it.
+// `>` and symbol characters: the token begins after the `>`, and its text has it.
 pub fn gt(text: &[u8], at: Cursor, e: usize) -> Action
     requires { ⌜ Chose (now text) at e ⌝ }
     ensures { λ r. ⌜ ((name : Bytes) → Rules (now (text .entry)) name at e (gt (now (text .entry)) (at .st) e) r) ⌝ }

@@ -29,13 +29,13 @@ use Rattle.read_string.specs.Contracts.{Reader}
 use Rattle.read_blob.specs.Contents.{header-of, InBlob}
 use Rattle.read_blob.specs.declared.Header.{Header}
 use Rattle.reader.specs.Actions.{Chose}
-use Rattle.reader.proofs.Spanning.{behind}
+use Rattle.reader.proofs.Spanning.{after-choice}
 use Rattle.rule_readers.specs.Names.{Names}
 
 module _ {s : Bytes} {at : Cursor} {e : ℕ} (h : Chose s at e) where
   -- behind the choice a reader stands with what is known already
   pub stands-behind : Standing s (advance (at .st) e) (at .known)
-  stands-behind = record { stands = behind h; cached = known-kept (at .st) (advance (at .st) e) refl refl (h .standing .cached) }
+  stands-behind = record { stands = after-choice h; cached = known-kept (at .st) (advance (at .st) e) refl refl (h .standing .cached) }
 
   -- ---- comments
 

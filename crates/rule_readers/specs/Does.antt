@@ -3,7 +3,7 @@ use Rattle.definition.specs.Basics.{Bytes}
 use Rattle.definition.specs.Token.{Token-turn}
 use Rattle.reader.specs.Described.{Turns}
 use Rattle.reader.specs.declared.Read.{Read}
-use Rattle.reader.specs.declared.Turned.the-variants.{Done}
+use Rattle.reader.specs.declared.ReadResult.the-variants.{Done}
 
 -- what the definition's rule t gives, whatever the class file is
 abbrev pub Does : Bytes → Bytes → Token-turn → Read → Type 0

@@ -1,7 +1,7 @@
 // A character literal, read: its token, with its code point.
 //
 // Proved: `char_lit` reads what the definition gives (crates/definition/specs/Token.antt): item, payload and state.
-// Assumed: nothing but what its `requires` says: a reader stands in a sound state of a legal text, and the choice ends behind
+// Assumed: nothing but what its `requires` says: a reader stands in a sound state of a legal text, and the choice ends after
 // it (`Chose`).
 use definition::Extra;
 use definition::kinds::CHAR;

@@ -1,8 +1,8 @@
-// What is read on from behind a choice: comments, literals and blobs.
+// What is read on from after a choice: comments, literals and blobs.
 //
 // Proved: each function reads what the definition's rule gives (crates/definition/specs/Token.antt): item, payload and state.
 // Assumed: nothing but what each function's `requires` says: a reader stands in a sound state of a legal text, the choice
-// ends behind it (`Chose`), and the class file is accepted where a literal is read.
+// ends after it (`Chose`), and the class file is accepted where a literal is read.
 pub mod character_literals; // character_literals.rt: character literals, read
 
 use position::pos_of;
@@ -31,7 +31,7 @@ ghost use Rattle.reader.specs.Described.{Reads};
 ghost use Rattle.reader.specs.Actions.{Chose};
 ghost use Rattle.rule_readers.specs.Names.{Names};
 
-// A comment behind its opening.
+// A comment after its opening.
 pub fn comment_start(text: &[u8], at: Cursor, e: usize) -> Read
     requires { ⌜ Chose (now text) at e ⌝ }
     ensures { λ r. ⌜ ReadsAny (now (text .entry)) (source.comment (now (text .entry)) (at .st .offset) (open-comment (advance (at .st) e) (cur-pos (now (text .entry)) (at .st)))) r ⌝ }
@@ -47,7 +47,7 @@ pub fn comment_start(text: &[u8], at: Cursor, e: usize) -> Read
     comment(text, st.offset as usize, inside)
 }
 
-// A line's comment behind its slashes.
+// A line's comment after its slashes.
 pub fn slashes(text: &[u8], at: Cursor, e: usize) -> Read
     requires { ⌜ Chose (now text) at e ⌝ }
     ensures { λ r. ⌜ ReadsAny (now (text .entry)) (source.line-comment (now (text .entry)) (lexeme (now (text .entry)) (at .st .offset) e) (advance (at .st) e)) r ⌝ }
@@ -56,7 +56,7 @@ pub fn slashes(text: &[u8], at: Cursor, e: usize) -> Read
     line_comment(text, st.offset as usize, moved(at, e))
 }
 
-// A string literal behind its quote.
+// A string literal after its quote.
 pub fn literal(text: &[u8], name: &[u8], classes: &[u8], at: Cursor, e: usize) -> Read
     requires { ⌜ Chose (now text) at e × (class-check (now classes) ≡ 0) ⌝ }
     ensures { λ r. ⌜ Reads (now (text .entry)) (now (name .entry)) (now (classes .entry)) (string-lit (now (text .entry)) (now (classes .entry)) (advance (at .st) e) (cur-pos (now (text .entry)) (at .st))) r ⌝ }

@@ -2,7 +2,7 @@
 use Prim.Native.Nat.{ℕ}
 use mathlib.Core.Path.{_≡_}
 use mathlib.Core.Bool.{true, false}
-use mathlib.Core.List.{List, [], _∷_, map}
+use mathlib.Core.List.{List, [], _∷_}
 use lib.Dec.{eqb}
 
 abbrev pub at-key : {X : Type 0} → ℕ → List (ℕ × X) → X → X
@@ -13,7 +13,3 @@ at-key n (x ∷ l) d = elim (eqb n (x .0)) [ true ↦ x .1 | false ↦ at-key n 
 abbrev pub Missing : {X : Type 0} → List (ℕ × X) → ℕ → Type 0
 Missing [] n = Unit {0}
 Missing (x ∷ l) n = Missing l n × (n ≡ x .0 → ⊥)
-
--- keys by themselves
-abbrev pub keyed : List ℕ → List (ℕ × Unit {0})
-keyed = map (λ (k : ℕ). (k, tt))

@@ -1,4 +1,4 @@
 pub mod Keys
 pub mod Plain
 pub mod Tabled
-pub mod Action
+pub mod Rules

@@ -2,11 +2,50 @@
 -- choice, k its place, e its end, w its word.
 use Prim.Native.Nat.{ℕ, _+_, _-_}
 use Prim.Native.String.{String}
-use mathlib.Core.List.{List, [], _∷_, _++_}
+use mathlib.Core.List.{List, [], _∷_, _++_, map}
 use lib.ListN.{getD}
 use Rattle.definition.specs.Basics.{Bytes}
 use Rattle.definition.specs.Text.{lexeme}
 use Rattle.definition.specs.Tables.{cps, early-literals, op-tokens, mixfix-rules, entry}
+use Rattle.definition.specs.Rules.{
+  Rule,
+  REarly,
+  RTripleBacktick,
+  RLang,
+  RSourceFile,
+  RLine,
+  RFileLine,
+  RWhite,
+  RNewline,
+  RCharLit,
+  RCharLitB,
+  RBacktick,
+  RKwOp,
+  RSemiSemi,
+  RIdent,
+  RConstructor,
+  RInt,
+  RUInt8,
+  RNumber,
+  RReal,
+  RBadNumber,
+  RCommentStart,
+  RInFStar,
+  RLineComment,
+  RString,
+  RBacktickIdent,
+  RPipeLeft,
+  RPipeRight,
+  RDotDot,
+  ROpToken,
+  RLt,
+  RGt,
+  ROp,
+  RUOperator,
+  RMixfix,
+  RAny,
+  place-rules,
+}
 use Rattle.definition.specs.Kinds.{kind}
 use Rattle.definition.specs.Numbers.{show}
 use Rattle.definition.specs.declared.State.{State}
@@ -14,14 +53,48 @@ use Rattle.rule_table.specs.Keys.{at-key}
 use Rattle.reader.specs.Described.{Sized, Describes}
 use Rattle.reader.specs.declared.Payload.{Payload}
 
+-- the name of the kind that a rule gives by itself; none where its word or the text decides
+abbrev pub kind-name : Rule → String
+kind-name (REarly k) = ""
+kind-name RTripleBacktick = ""
+kind-name RLang = ""
+kind-name RSourceFile = "STRING"
+kind-name RLine = "INT"
+kind-name RFileLine = "STRING"
+kind-name RWhite = ""
+kind-name RNewline = ""
+kind-name RCharLit = ""
+kind-name RCharLitB = ""
+kind-name RBacktick = "BACKTICK"
+kind-name (RKwOp x) = ""
+kind-name RSemiSemi = "SEMICOLON_OP"
+kind-name RIdent = ""
+kind-name RConstructor = ""
+kind-name RInt = "INT"
+kind-name RUInt8 = "UINT8"
+kind-name (RNumber k) = k
+kind-name RReal = "REAL"
+kind-name RBadNumber = ""
+kind-name RCommentStart = ""
+kind-name RInFStar = ""
+kind-name RLineComment = ""
+kind-name RString = ""
+kind-name RBacktickIdent = "IDENT"
+kind-name RPipeLeft = "PIPE_LEFT"
+kind-name RPipeRight = "PIPE_RIGHT"
+kind-name RDotDot = "DOT_DOT"
+kind-name (ROpToken k text) = ""
+kind-name RLt = "OPINFIX0c"
+kind-name RGt = ""
+kind-name (ROp k) = k
+kind-name RUOperator = ""
+kind-name (RMixfix k) = ""
+kind-name RAny = ""
+
 -- the names of the kinds of places, by place
 unfoldable pub place-kinds : List String
-place-kinds =
-    "" ∷ "" ∷ "" ∷ "" ∷ "STRING" ∷ "INT" ∷ "STRING" ∷ "" ∷ "" ∷ "" ∷ "" ∷ "BACKTICK" ∷ "" ∷ "SEMICOLON_OP" ∷ "" ∷ "" ∷
-    "INT" ∷ "UINT8" ∷ "INT8" ∷ "UINT16" ∷ "INT16" ∷ "UINT32" ∷ "INT32" ∷ "UINT64" ∷ "INT64" ∷ "SIZET" ∷ "REAL" ∷ "" ∷ ""
-    ∷ "" ∷ "" ∷ "" ∷ "IDENT" ∷ "PIPE_LEFT" ∷ "PIPE_RIGHT" ∷ "DOT_DOT" ∷ "" ∷ "OPINFIX0c" ∷ "" ∷ "OPINFIX3R" ∷ "OPINFIX4"
-    ∷ "OPPREFIX" ∷ "OPINFIX0a" ∷ "OPINFIX0b" ∷ "OPINFIX0c" ∷ "OPINFIX0d" ∷ "OPINFIX1" ∷ "OPINFIX2" ∷ "OPINFIX3L" ∷ "" ∷
-    "" ∷ []
+unfolding place-rules
+place-kinds = map kind-name (RAny ∷ place-rules 0)
 
 abbrev pub kind-of : ℕ → ℕ
 kind-of k = kind (getD place-kinds k "")

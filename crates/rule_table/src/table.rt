@@ -2,95 +2,92 @@
 ghost use mathlib.Core.Path.{_≡_};
 ghost use Prim.Native.Nat.{_<_};
 ghost use Rattle.rule_table.specs.Plain.{kind-of};
-ghost use Rattle.rule_table.specs.Action.{rule-of};
+ghost use Rattle.rule_table.specs.Rules.{rule-of};
 
-// The rules by their numbers, and that of no place.
-pub const NO_RULE: u32 = 0;
+// What a choice leads to.
+pub enum Rule {
+    // White space, and what is passed like it: the source's RWhite and RInFStar.
+    White,
+    // A line's end.
+    Newline,
+    // A rule that gives an action.
+    Action(ActionRule),
+    // A rule that reads an item for itself.
+    Reader(ReaderRule),
+}
 
-// A token that its place and word decide.
-pub const PLAIN: u32 = 1;
+// The rules that give an action on what was chosen: a token, an error or a line's comment, known without reading on.
+pub enum ActionRule {
+    // A token that its place and word decide.
+    Plain,
+    // A keyword before operator characters.
+    KwOp,
+    // An identifier or a keyword.
+    Ident,
+    // A name that begins with a capital.
+    Constructor,
+    // A number: the source's RInt and RNumber.
+    Number,
+    // A number of a byte.
+    UInt8,
+    // What begins like a number and is none.
+    BadNumber,
+    // `>` and symbol characters.
+    Gt,
+    // An operator.
+    Op,
+    // An operator beyond ASCII.
+    UOperator,
+}
 
-// A blob between backticks.
-pub const FENCED: u32 = 2;
-
-// The text of another language.
-pub const LANGUAGE: u32 = 3;
-
-// White space, and what is passed like it.
-pub const WHITE: u32 = 4;
-
-// A line's end.
-pub const LINE_END: u32 = 5;
-
-// A character.
-pub const CHARACTER: u32 = 6;
-
-// A keyword before operator characters.
-pub const KEYWORD_OPERATOR: u32 = 7;
-
-// An identifier or a keyword.
-pub const IDENTIFIER: u32 = 8;
-
-// A name that begins with a capital.
-pub const CAPITAL_NAME: u32 = 9;
-
-// A number.
-pub const NUMBER: u32 = 10;
-
-// A number of a byte.
-pub const BYTE_NUMBER: u32 = 11;
-
-// What begins like a number and is none.
-pub const BAD_NUMBER: u32 = 12;
-
-// A comment.
-pub const COMMENT: u32 = 13;
-
-// A line's comment.
-pub const LINE_COMMENT: u32 = 14;
-
-// A string literal.
-pub const LITERAL: u32 = 15;
-
-// `>` and symbol characters.
-pub const GREATER: u32 = 16;
-
-// An operator.
-pub const OPERATOR: u32 = 17;
-
-// An operator beyond ASCII.
-pub const UNICODE_OPERATOR: u32 = 18;
+// The rules that read on from after the choice, or make a character, or find that no place was chosen.
+pub enum ReaderRule {
+    // A blob between backticks.
+    TripleBacktick,
+    // The text of another language.
+    Lang,
+    // A character: the source's RCharLit and RCharLitB.
+    CharLit,
+    // A comment.
+    CommentStart,
+    // A line's comment.
+    LineComment,
+    // A string literal.
+    StringLit,
+    // No place was chosen: an unexpected character, or the text's end.
+    Any,
+}
 
 // The rule of a place. Neighbouring places with one rule stand in two arms: in one arm they would become a range, which takes
 // more tests.
-pub fn rule_of(place: u32) -> u32
+pub fn rule_of(place: u32) -> Rule
     requires { ⌜ place < 51 ⌝ }
     ensures { λ r. ⌜ r ≡ rule-of place ⌝ }
 {
     match place {
-        1 | 5 | 11 | 13 | 33 | 35 | 37 => PLAIN,
-        4 | 6 | 26 | 32 | 34 | 36 | 50 => PLAIN,
-        2 => FENCED,
-        3 => LANGUAGE,
-        7 | 29 => WHITE,
-        8 => LINE_END,
-        9 => CHARACTER,
-        10 => CHARACTER,
-        12 => KEYWORD_OPERATOR,
-        14 => IDENTIFIER,
-        15 => CAPITAL_NAME,
-        16 | 18 | 20 | 22 | 24 => NUMBER,
-        19 | 21 | 23 | 25 => NUMBER,
-        17 => BYTE_NUMBER,
-        27 => BAD_NUMBER,
-        28 => COMMENT,
-        30 => LINE_COMMENT,
-        31 => LITERAL,
-        38 => GREATER,
-        39 | 41 | 43 | 45 | 47 => OPERATOR,
-        40 | 42 | 44 | 46 | 48 => OPERATOR,
-        49 => UNICODE_OPERATOR,
-        _ => NO_RULE,
+        1 | 5 | 11 | 13 | 33 | 35 | 37 => Rule::Action(ActionRule::Plain),
+        4 | 6 | 26 | 32 | 34 | 36 | 50 => Rule::Action(ActionRule::Plain),
+        2 => Rule::Reader(ReaderRule::TripleBacktick),
+        3 => Rule::Reader(ReaderRule::Lang),
+        7 | 29 => Rule::White,
+        8 => Rule::Newline,
+        9 => Rule::Reader(ReaderRule::CharLit),
+        10 => Rule::Reader(ReaderRule::CharLit),
+        12 => Rule::Action(ActionRule::KwOp),
+        14 => Rule::Action(ActionRule::Ident),
+        15 => Rule::Action(ActionRule::Constructor),
+        16 | 18 | 20 | 22 | 24 => Rule::Action(ActionRule::Number),
+        19 | 21 | 23 | 25 => Rule::Action(ActionRule::Number),
+        17 => Rule::Action(ActionRule::UInt8),
+        27 => Rule::Action(ActionRule::BadNumber),
+        28 => Rule::Reader(ReaderRule::CommentStart),
+        30 => Rule::Reader(ReaderRule::LineComment),
+        31 => Rule::Reader(ReaderRule::StringLit),
+        38 => Rule::Action(ActionRule::Gt),
+        39 | 41 | 43 | 45 | 47 => Rule::Action(ActionRule::Op),
+        40 | 42 | 44 | 46 | 48 => Rule::Action(ActionRule::Op),
+        49 => Rule::Action(ActionRule::UOperator),
+        _ => Rule::Reader(ReaderRule::Any),
     }
 }
 

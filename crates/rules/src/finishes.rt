@@ -5,7 +5,7 @@
 // `finish` carries out. Characters, which alone have a code point besides, are made by themselves (crate
 // `rule_readers`).
 // Assumed: nothing but what each function's `requires` says: a reader stands in a sound state of a legal text, the choice
-// ends behind it (`Chose`), and the action fits the text (`Fits`).
+// ends after it (`Chose`), and the action fits the text (`Fits`).
 use definition::Extra;
 use position::pos_of;
 use read_comment::line_comments::line_comment;
@@ -22,7 +22,7 @@ ghost use Rattle.definition.specs.declared.Extra.the-variants.{NoExtra};
 ghost use Rattle.reader.specs.Described.{Describes, Sized, Reads};
 ghost use Rattle.reader.specs.Actions.{spanned, Chose, Spans, action-step, Fits};
 
-// A token from byte i up to byte e, with the state behind it.
+// A token from byte i up to byte e, with the state after it.
 fn finish_from(
     text: &[u8],
     name: &[u8],

@@ -1,4 +1,4 @@
--- A run, turn by turn: what holds between two items holds behind the next, and what is still to come gives what the whole gives. Rests
+-- A run, turn by turn: what holds between two items holds after the next, and what is still to come gives what the whole gives. Rests
 -- on the laws of sound states, of payloads and of the items' number.
 use Prim.Native.Nat.{ℕ, _+_, _-_, _*_, _≤_, _<_}
 use mathlib.Core.Path.{_≡_, sym, ap, subst, _∙_}
@@ -27,7 +27,7 @@ use Rattle.reader.specs.declared.Cursor.{Cursor}
 use Rattle.reader.specs.Described.{Known-at}
 use Rattle.laws_run.proofs.Items.{step-left}
 use Rattle.laws_run.proofs.Buffers.{words-size}
-use Rattle.run_turn.specs.declared.Went.the-variants.{Stop, Wrote}
+use Rattle.run_turn.specs.declared.TurnResult.the-variants.{Stop, Wrote}
 use Rattle.run_turn.specs.Running.{writing, answered, Ran, Kept, Between, Going}
 
 module _ (s name f : Bytes) (named : length name ≤ 4096) where
@@ -98,7 +98,7 @@ pub between-any : {s name f : Bytes} {at : Cursor} {count used : ℕ} {rs : List
     → (other : Bytes) → length other ≤ 4096 → Between s other f at count used rs ps
 between-any b other named = record { accepted = b .accepted; named = named; kept = b .kept; cached = b .cached }
 
--- behind an item that was written a run stands between two items again, with less to read
+-- after an item that was written a run stands between two items again, with less to read
 pub between-on : {s name f : Bytes} {at : Cursor} {count used : ℕ} {rs : List ℕ} {ps : Bytes} → Between s name f at count used rs ps
     → (next : Cursor) (used′ : ℕ) (rs′ : List ℕ) (ps′ : Bytes)
     → Ran s (run-turn s name f (writing at count used rs ps)) count (at .st) (Wrote next used′) rs′ ps′

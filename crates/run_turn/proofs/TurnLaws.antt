@@ -17,9 +17,9 @@ use Rattle.reader.specs.declared.Payload.{Payload}
 use Rattle.reader.specs.declared.Payload.the-variants.{Part, Text, Greater, Name, Line, FileLine, Literal, Piece, Blob}
 use Rattle.reader.specs.Described.{bytes-of, length-of, Listed, Inside, Measurable, Reads, Known-at}
 use Rattle.laws_run.proofs.Steps.{payload-bound, budget-small}
-use Rattle.run_turn.specs.declared.Went.the-variants.{Wrote}
-use Rattle.lookahead.specs.Sights.{ahead-step}
-use Rattle.lookahead.specs.declared.Ahead.{Ahead}
+use Rattle.run_turn.specs.declared.TurnResult.the-variants.{Wrote}
+use Rattle.lookahead.specs.Lookahead.{ahead-step}
+use Rattle.lookahead.specs.declared.NextItem.{NextItem}
 use Rattle.run_turn.specs.Running.{writing, Ran, Between, StandsAhead, ItemFits}
 
 module _ (s name f : Bytes) (a : Writing) where
@@ -60,7 +60,7 @@ module _ (s name f : Bytes) (a : Writing) where
 -- ---- what the code's turn did
 
 -- what stands ahead, read, is the step from where the run stands
-pub ahead-reads : {s name f : Bytes} {at here : Cursor} {ahead : Ahead} {r : Read} → StandsAhead s name f at here ahead → (at .st .mode ≡ 2 → ⊥)
+pub ahead-reads : {s name f : Bytes} {at here : Cursor} {ahead : NextItem} {r : Read} → StandsAhead s name f at here ahead → (at .st .mode ≡ 2 → ⊥)
     → Reads s name f (ahead-step s name f (here .st) ahead) r → Reads s name f (step s name f (at .st)) r
 ahead-reads {s} {name} {f} {r = r} a awake d = subst (λ (t : Step). Reads s name f t r) (a .is awake) d
 

@@ -18,10 +18,10 @@ use Rattle.laws_run.specs.Budget.{budget}
 use Rattle.reader.specs.declared.Cursor.{Cursor}
 use Rattle.reader.specs.declared.Read.{Read}
 use Rattle.reader.specs.Described.{bytes-of, length-of, Inside, Known-at}
-use Rattle.lookahead.specs.Sights.{Readable, ahead-step}
-use Rattle.lookahead.specs.declared.Ahead.{Ahead}
-use Rattle.run_turn.specs.declared.Went.{Went}
-use Rattle.run_turn.specs.declared.Went.the-variants.{Stop, Wrote}
+use Rattle.lookahead.specs.Lookahead.{Readable, ahead-step}
+use Rattle.lookahead.specs.declared.NextItem.{NextItem}
+use Rattle.run_turn.specs.declared.TurnResult.{TurnResult}
+use Rattle.run_turn.specs.declared.TurnResult.the-variants.{Stop, Wrote}
 
 -- the run, as the definition has it
 abbrev pub writing : Cursor → ℕ → ℕ → List ℕ → Bytes → Writing
@@ -31,8 +31,8 @@ writing at count used rs ps = record { state = at .st; records = rs; payload = p
 abbrev pub answered : ℕ → ℕ → State → RunAnswer
 answered stop count st = record { refusal = 0; offset = 0; stop = stop; count = count; state = st }
 
--- what a turn of the definition says is what the code did: it stopped, or it wrote an item and stands behind it
-abbrev pub Ran : Bytes → Turn Writing Outcome → ℕ → State → Went → List ℕ → Bytes → Type 0
+-- what a turn of the definition says is what the code did: it stopped, or it wrote an item and stands after it
+abbrev pub Ran : Bytes → Turn Writing Outcome → ℕ → State → TurnResult → List ℕ → Bytes → Type 0
 Ran s t count st (Stop n) rs ps = t ≡ done (answered n count st, rs, ps)
 Ran s t count st (Wrote next used) rs ps = (t ≡ again (writing next (count + 1) used rs ps)) × Known-at s (next .st) (next .known)
 
@@ -52,8 +52,8 @@ pub record Between (s name f : Bytes) (at : Cursor) (count used : ℕ) (rs : Lis
   pub kept : Kept s (writing at count used rs ps)
   pub cached : Known-at s (at .st) (at .known)
 
--- what stands ahead of the reader at `at` is `ahead`, behind white space at `here`, unless the reading has ended
-pub record StandsAhead (s name f : Bytes) (at here : Cursor) (ahead : Ahead) : Type 0 where
+-- what stands ahead of the reader at `at` is `ahead`, after white space at `here`, unless the reading has ended
+pub record StandsAhead (s name f : Bytes) (at here : Cursor) (ahead : NextItem) : Type 0 where
   pub readable : (at .st .mode ≡ 2 → ⊥) → Readable s name f here ahead
   pub is : (at .st .mode ≡ 2 → ⊥) → ahead-step s name f (here .st) ahead ≡ step s name f (at .st)
 

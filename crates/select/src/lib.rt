@@ -1,7 +1,7 @@
 // The choice at an offset: the longest part that one of the 50 places permits there, ties going to the earlier place. The
 // first character decides which places are tried: no place is tried that can't begin with it.
 //
-// Proved: `select` is the definition's `select`, at any offset of any bytes. The laws behind it (in proofs/): a place whose
+// Proved: `select` is the definition's `select`, at any offset of any bytes. The laws that it rests on (in proofs/): a place whose
 // pattern can't begin with the character finds nothing (First), and which places may begin with which characters (Groups,
 // BeyondAscii).
 // Assumed: nothing but what `select`'s `requires` says: a class file that `class_check` accepts, and the tables of operator

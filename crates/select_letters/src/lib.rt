@@ -50,7 +50,7 @@ pub fn at_early_letter(text: &[u8], file: &[u8], i: usize) -> Choice
     try_place(best, i, 14, name_behind(text, file, i))
 }
 
-// An identifier, or a keyword with operator characters behind it.
+// An identifier, or a keyword with operator characters after it.
 pub fn at_keyword_letter(text: &[u8], file: &[u8], ops: &[bool; 128], i: usize) -> Choice
     requires { ⌜ (class-check (now file) ≡ 0) × (i < length (now text)) × (now ops ≡ ascii-table op-char-cps) ⌝ }
     ensures { λ r. ⌜ r ≡ at-keyword-letter (now (text .entry)) (now (file .entry)) i ⌝ }
@@ -78,7 +78,7 @@ pub fn at_underscore(text: &[u8], file: &[u8], i: usize) -> Choice
     try_place(best, i, 14, name_behind(text, file, i))
 }
 
-// A character literal, with or without the B behind it, or an identifier.
+// A character literal, with or without the B after it, or an identifier.
 pub fn at_quote(text: &[u8], file: &[u8], i: usize) -> Choice
     requires { ⌜ (class-check (now file) ≡ 0) × (i < length (now text)) ⌝ }
     ensures { λ r. ⌜ r ≡ at-quote (now (text .entry)) (now (file .entry)) i ⌝ }

@@ -61,7 +61,7 @@ fn try_usuffix(
     try_place(best, i, place, usuffix_after(text, ends, suffix))
 }
 
-// The end of an unsigned 8-bit integer, which z behind the digits makes too.
+// The end of an unsigned 8-bit integer, which z after the digits makes too.
 fn byte_after(text: &[u8], ends: IntegerEnds, i: usize) -> Match
     requires { ⌜ ends ≡ integer-ends (now text) i ⌝ }
     ensures { λ r. ⌜ r ≡ byte-integer (now (text .entry)) i ⌝ }

@@ -28,7 +28,7 @@ ghost use Rattle.definition.specs.Matchers.{_then_, match-lit};
 ghost use Rattle.definition.specs.declared.Match.the-variants.{To};
 ghost use Rattle.select_places.specs.Groups.{symbols-behind, at-operator, at-token, at-token-operator, at-hash, at-percent, at-semicolon, at-paren, at-slash, at-less, at-bar, at-point, at-star};
 
-// The end of the symbol characters behind the first character of an operator.
+// The end of the symbol characters after the first character of an operator.
 fn symbols_behind(text: &[u8], symbols: &[bool; 128], i: usize) -> Match
     requires { ⌜ (now symbols ≡ ascii-table symbolchar-cps) × (i < length (now text)) ⌝ }
     ensures { λ r. ⌜ r ≡ symbols-behind (now (text .entry)) i ⌝ }
@@ -36,7 +36,7 @@ fn symbols_behind(text: &[u8], symbols: &[bool; 128], i: usize) -> Match
     Match::To(star_symbolchar(text, symbols, i + 1))
 }
 
-// The end of the symbol characters behind a word.
+// The end of the symbol characters after a word.
 fn lit_then_symbols(text: &[u8], symbols: &[bool; 128], word: &[u8], i: usize) -> Match
     requires { ⌜ now symbols ≡ ascii-table symbolchar-cps ⌝ }
     ensures { λ r. ⌜ r ≡ (match-lit (now (text .entry)) (now (word .entry)) i then λ e. To (star is-symbolchar (now (text .entry)) e)) ⌝ }
@@ -91,7 +91,7 @@ pub fn at_percent(text: &[u8], symbols: &[bool; 128], i: usize) -> Choice
     try_place(best, i, 48, symbols_behind(text, symbols, i))
 }
 
-// A semicolon with operator characters behind it, two, or one.
+// A semicolon with operator characters after it, two, or one.
 pub fn at_semicolon(text: &[u8], ops: &[bool; 128], i: usize) -> Choice
     requires { ⌜ now ops ≡ ascii-table op-char-cps ⌝ }
     ensures { λ r. ⌜ r ≡ at-semicolon (now (text .entry)) i ⌝ }
@@ -151,7 +151,7 @@ pub fn at_point(text: &[u8], i: usize) -> Choice
     keep(best, mixfix_word(text, i))
 }
 
-// Two stars with symbol characters, or those behind one.
+// Two stars with symbol characters, or those after one.
 pub fn at_star(text: &[u8], symbols: &[bool; 128], i: usize) -> Choice
     requires { ⌜ (now symbols ≡ ascii-table symbolchar-cps) × (i < length (now text)) ⌝ }
     ensures { λ r. ⌜ r ≡ at-star (now (text .entry)) i ⌝ }

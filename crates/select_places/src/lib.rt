@@ -40,7 +40,7 @@ pub fn first(i: usize, new: Choice) -> Choice
     keep(nothing(i), new)
 }
 
-// The end of the identifier characters behind the first character of a name.
+// The end of the identifier characters after the first character of a name.
 pub fn name_behind(text: &[u8], file: &[u8], i: usize) -> Match
     requires { ⌜ (class-check (now file) ≡ 0) × (i < length (now text)) ⌝ }
     ensures { λ r. ⌜ r ≡ name-behind (now (text .entry)) (now (file .entry)) i ⌝ }
@@ -48,7 +48,7 @@ pub fn name_behind(text: &[u8], file: &[u8], i: usize) -> Match
     Match::To(star_ident_char(text, file, i + 1))
 }
 
-// The end of a word with an identifier behind it.
+// The end of a word with an identifier after it.
 pub fn lit_then_ident(text: &[u8], file: &[u8], word: &[u8], i: usize) -> Match
     requires { ⌜ class-check (now file) ≡ 0 ⌝ }
     ensures { λ r. ⌜ r ≡ (match-lit (now (text .entry)) (now (word .entry)) i then match-ident (now (text .entry)) (now (file .entry))) ⌝ }

@@ -1,5 +1,5 @@
 // What may be chosen where a character beyond ASCII stands: the places that may begin with it, in place order, the earlier
-// winning ties. Each place reads on behind the character, which is decoded already.
+// winning ties. Each place reads on after the character, which is decoded already.
 //
 // Proved: the answer of `at_beyond_ascii` is what the definition's matchers and tables give at those places, at any offset
 // within any bytes.
@@ -27,7 +27,7 @@ ghost use Rattle.definition.specs.Matchers.{only};
 ghost use Rattle.definition.specs.declared.Match.the-variants.{To};
 ghost use Rattle.select_places.specs.Groups.{quantified, at-beyond-ascii};
 
-// The end of white space behind a character c.
+// The end of white space after a character c.
 fn white_behind(text: &[u8], file: &[u8], c: u32, j: usize) -> Match
     requires { ⌜ class-check (now file) ≡ 0 ⌝ }
     ensures { λ r. ⌜ r ≡ only (is-anywhite (now (file .entry)) c) (To (star (is-anywhite (now (file .entry))) (now (text .entry)) j)) ⌝ }

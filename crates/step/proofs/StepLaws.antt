@@ -21,13 +21,14 @@ use Rattle.reader.specs.Standing.{Standing}
 use Rattle.reader.specs.declared.Cursor.{Cursor}
 use Rattle.reader.specs.declared.Payload.the-variants.{Part}
 use Rattle.reader.specs.declared.Read.{Read}
-use Rattle.reader.specs.declared.Turned.the-variants.{Done}
+use Rattle.reader.specs.declared.ReadResult.the-variants.{Done}
 use Rattle.reader.proofs.Standing.{known-asked, known-kept}
 use Rattle.reader.proofs.Turning.{turned-done}
+use Rattle.rule_table.specs.declared.table.Rule.{Rule}
 use Rattle.rules.specs.Acting.{Acts}
 use Rattle.lookahead.proofs.TurnLaws.{turn-acts}
-use Rattle.lookahead.specs.Sights.{Faces}
-use Rattle.lookahead.proofs.SightLaws.{chosen-acts}
+use Rattle.lookahead.specs.Lookahead.{Faces}
+use Rattle.lookahead.proofs.LookaheadLaws.{chosen-acts}
 use Rattle.step.specs.Items.{eof, ReadsEach, Lets}
 
 -- ---- the text's end
@@ -56,7 +57,7 @@ pub next-reads : (s name f : Bytes) (st : State) (r : Read) → Turns s name f (
 next-reads s name f st r t =
     subst (λ (x : Step). Reads s name f x r) (sym (token-unroll s name f st)) (turned-done s name f (token-turn s name f st) (next-token s name f) r t)
 
-module _ {s name f : Bytes} {at : Cursor} {c : Choice} (h : Faces s f at c) (lets : Lets name f) (before : at .st .offset < length s) where
+module _ {s name f : Bytes} {at : Cursor} {c : Choice} {rule : Rule} (h : Faces s f at c rule) (lets : Lets name f) (before : at .st .offset < length s) where
   -- what is asked where the choice is acted on
   pub acts : Acts s name f at c
   acts = chosen-acts (record { standing = h .standing; between = h .between; accepted = lets .accepted }) (h .chosen) before (lets .named)

@@ -1,5 +1,5 @@
 // The kinds and texts of the tables' entries: `keywords`, `constructors`, `uoperators`, the operator tokens and the mixfix
-// words, one table behind the other and each in its order; behind them the text of the token `<`, which is in no table.
+// words, one table after the other and each in its order; after them the text of the token `<`, which is in no table.
 // A table is built anew in each function that reads it, so most kinds and lengths are given by a rule for a range of entries,
 // and only what no rule gives is in small tables of bytes. Proved: each kind and text is that of the definition's entry; that
 // the rules and the tables give what the definition's tables do is computed from them. Assumed: nothing but what each
@@ -122,7 +122,7 @@ const TEXT_STARTS: [u8; 34] = [
     97,
 ];
 
-// The texts, one behind the other.
+// The texts, one after the other.
 const TEXTS: [u8; 99] =
     *b"'a'b'c'd'e'f'g'h'i'k'm'n'p'q'r's't'u'w'x'znatintboolTrueFalse~\xc3\xb7||op_Star*=>>=<=<><<<|\xc2\xb1\xe2\x88\x81\xe2\x88\x82\xe2\x88\x9a~<";
 

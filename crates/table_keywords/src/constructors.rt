@@ -9,7 +9,7 @@ ghost use Rattle.definition.specs.Tables.{constructors};
 ghost use Rattle.table_words.specs.Words.{spelled};
 ghost use Rattle.table_keywords.specs.Places.{place};
 
-// The place of a constructor, behind the keywords.
+// The place of a constructor, after the keywords.
 pub fn constructor(id: &[u8]) -> Word
     ensures { λ r. ⌜ r ≡ place 86 (now (id .entry)) (spelled constructors) ⌝ }
 {

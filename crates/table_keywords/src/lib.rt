@@ -1,5 +1,5 @@
 // Whole lexemes looked up by a key in the source's tables `keywords` and `uoperators`. The words of the source's three tables
-// are numbered as one list, `keywords`, `constructors` and `uoperators` one behind the other and each in its order. Most
+// are numbered as one list, `keywords`, `constructors` and `uoperators` one after the other and each in its order. Most
 // identifiers are no keyword, and fail a test before they are looked up (module `lengths`). What passes it, and an
 // operator, is found by its key, from its first byte, its last byte and its length: of the words of a table with the same key,
 // at most four, each is compared (crate `table_words`). The constructors need no key (module `constructors`). A table is built
@@ -25,7 +25,7 @@ pub enum Word {
     Nowhere,
 }
 
-// Behind each word, the next one with the same key; past the last word where there is none. Sixteen places to a row.
+// After each word, the next one with the same key; past the last word where there is none. Sixteen places to a row.
 const NEXT: [u8; 119] = *b"\
     \x1f\x32\x4e\x08\x0d\x19\x38\x4a\x2c\x2d\x0e\x77\x54\x4b\x3b\x16\
     \x5d\x12\x77\x24\x1d\x77\x2b\x4d\x1e\x51\x20\x22\x23\x28\x52\x3f\
@@ -37,7 +37,7 @@ const NEXT: [u8; 119] = *b"\
     \x77\x77\x77\x77\x77\x77\x77\
 ";
 
-// For each key, the first word of a table, or of those behind it, that has it.
+// For each key, the first word of a table, or of those after it, that has it.
 const KEYWORDS: [u8; 64] = *b"\
     \x77\x41\x42\x43\x44\x45\x55\x48\x02\x49\x07\x15\x04\x4c\x0c\x71\
     \x11\x17\x4f\x0b\x1a\x05\x1c\x14\x13\x18\x21\x03\x0f\x06\x10\x0a\
@@ -89,7 +89,7 @@ pub fn keyword(id: &[u8]) -> Word
     follow(id, KEYWORDS[key(id)] as usize, 86)
 }
 
-// The place of an operator in Unicode, behind the constructors.
+// The place of an operator in Unicode, after the constructors.
 pub fn uoperator(id: &[u8]) -> Word
     ensures { λ r. ⌜ r ≡ place 89 (now (id .entry)) (spelled uoperators) ⌝ }
 {

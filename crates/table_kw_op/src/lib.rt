@@ -108,7 +108,7 @@ fn kw_op_reach(a: u8) -> usize
     }
 }
 
-// A keyword-operator word at i with operator characters behind it. Many identifiers begin with a letter that such a word
+// A keyword-operator word at i with operator characters after it. Many identifiers begin with a letter that such a word
 // begins with, and few of them have an operator character where it would end: only for those, and beyond ASCII, is the table
 // built.
 pub fn kw_op(text: &[u8], table: &[bool; 128], i: usize) -> Choice
@@ -154,7 +154,7 @@ pub fn kw_op_plain_kind(word: usize) -> u32
     KW_OP_PLAIN_KINDS[word]
 }
 
-// The kind of the word with operator characters behind it.
+// The kind of the word with operator characters after it.
 pub fn kw_op_kind(word: usize) -> u32
     requires { ⌜ word < 9 ⌝ }
     ensures { λ r. ⌜ r ≡ kind (kw-op-entry word .op-kind) ⌝ }

@@ -1,4 +1,4 @@
-// The words of the source's tables `keywords`, `constructors` and `uoperators`, one table behind the other and each in its
+// The words of the source's tables `keywords`, `constructors` and `uoperators`, one table after the other and each in its
 // order: whether word k is a lexeme. A table is built anew in each function that reads it, so the words stand in the arms of a
 // `match`, where nothing is built but the word. Five byte strings to a function, since the time to check it grows with their
 // square. They are a crate of their own, so that a change of the look-ups does not have them checked again.

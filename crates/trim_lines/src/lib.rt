@@ -1,5 +1,5 @@
 // The trimming of comments: how many bytes each line of a comment's piece loses, how many are left, and those that are left,
-// written. A piece is a part of the text with `*)` behind it; each function passes over it once, byte by byte.
+// written. A piece is a part of the text with `*)` after it; each function passes over it once, byte by byte.
 //
 // Proved: the width is the definition's for the start column, the length is that of the trimmed piece, and the bytes written
 // are those of the trimmed piece; proofs/Trimming.antt has that they are what `maybe-trim-lines` gives.
@@ -87,7 +87,7 @@ fn keeps(left: usize, b: u8) -> bool
     left == 0
 }
 
-// How many bytes the line still loses behind a byte.
+// How many bytes the line still loses after a byte.
 fn left_after(width: usize, left: usize, b: u8) -> usize
     ensures { λ r. ⌜ r ≡ left-after width left b ⌝ }
 {

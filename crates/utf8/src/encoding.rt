@@ -1,5 +1,5 @@
 // The bytes of a character in UTF-8.
-// Proved: the bytes and their number are what the definition's `encode` says; the writer changes nothing behind the bytes
+// Proved: the bytes and their number are what the definition's `encode` says; the writer changes nothing after the bytes
 // that it writes.
 // Assumed: of `encode_into` that the number is at most 10FFFF and that its bytes fit.
 ghost use mathlib.Core.Path.{_≡_};

@@ -1,12 +1,12 @@
--- The invariant is `Bursting`: what is still to come is what was to come before the first token. The measure is what is left to read.
+-- The invariant is `WritingTokens`: what is still to come is what was to come before the first token. The measure is what is left to read.
 use mathlib.Core.Path.{_≡_, refl, _∙_}
 use mathlib.Core.List.{[]}
 use lib.ListN.{length}
 use Rattle.laws_run.specs.Left.{left}
-use Rattle.rules.proofs.RuleLaws.{rule-small, chosen-tabled}
-use Rattle.lookahead.proofs.SightLaws.{action-chose}
+use Rattle.rules.proofs.RuleLaws.{chosen-tabled}
+use Rattle.lookahead.proofs.LookaheadLaws.{action-chose}
 use Rattle.fast_path.proofs.TokenLaws.{action-asks}
-use Rattle.fast_path.proofs.BurstLaws.{no-action, a-action, Bursting, bursting-starts, bursting-looks, bursting-writes, bursting-chosen, bursting-left, bursting-put, bursts-nowhere}
+use Rattle.fast_path.proofs.TokensWrittenLaws.{WritingTokens, tokens-start, looks-asked, writes-asked, then-reader, then-action, token-passed, no-tokens}
 use native.Mathlib.Omega.{arith}
 use borrow.Author.Needs.{needs}
 use Rattle.fast_path.proofs.write_tokens.Statement.{statement}
@@ -14,86 +14,93 @@ use Rattle.fast_path.proofs.write_tokens.Tie as tie
 
 abbrev Inv-loop : tie.InvT-loop
 Inv-loop text classes ops symbols begun filled records₀ bytes₀ at₀ count₀ used₀ plain₀ records bytes at count used plain =
-    Bursting text classes at₀ count₀ used₀ records₀ bytes₀ at count used plain records bytes × (length records ≡ length records₀) × (length bytes ≡ length bytes₀)
+    WritingTokens text classes at₀ count₀ used₀ records₀ bytes₀ at count used plain records bytes × (length records ≡ length records₀) × (length bytes ≡ length bytes₀)
 
 abbrev μ-loop : tie.MeasureT-loop
 μ-loop text classes ops symbols begun filled records₀ bytes₀ at₀ count₀ used₀ plain₀ records bytes at count used plain = left text (at .st)
 
+stopped-requires : tie.Need-stopped-requires Inv-loop μ-loop
+stopped-requires c κs = search needs
+
 returns : tie.Need-returns Inv-loop μ-loop
-returns c = bursts-nowhere (c .before .before .before .before .before .before .before .pre .0) (c .if1 .taken)
+returns c = no-tokens (c .before .before .before .before .before .before .before .before .pre .0) (c .before .if1 .taken) (c .stopped .ensures)
 
 loop-holds : tie.Need-loop-holds Inv-loop μ-loop
-loop-holds c = (bursting-starts (c .before .before .before .before .before .before .before .pre .0) (c .if1 .left), refl, refl)
+loop-holds c = (tokens-start (c .before .before .before .before .before .before .before .pre .0) (c .if1 .left), refl, refl)
 
 look-requires : tie.Need-look-requires Inv-loop μ-loop
-look-requires c κs = bursting-looks (c .loop .inv .0) (c .before .before .before .before .before .before .before .before .pre .1)
+look-requires c κs = looks-asked (c .loop .inv .0) (c .before .before .before .before .before .before .before .before .pre .1)
 
-rule-of-requires : tie.Need-rule-of-requires Inv-loop μ-loop
-rule-of-requires c κs = chosen-tabled _ _ _ (c .before .before .look .ensures .faces .chosen) .place
+enum-known-here : tie.Need-enum-known-here Inv-loop μ-loop
+enum-known-here c = search needs
 
-gives-action-requires : tie.Need-gives-action-requires Inv-loop μ-loop
-gives-action-requires c κs = rw (c .rule-of .ensures) (rule-small _)
+stopped-requires-2 : tie.Need-stopped-requires-2 Inv-loop μ-loop
+stopped-requires-2 c κs = search needs
 
 same-length : tie.Need-same-length Inv-loop μ-loop
-same-length c = c .before .before .before .before .before .before .loop .inv .1
+same-length c = c .before .before .before .before .before .loop .inv .1
 
 same-length-2 : tie.Need-same-length-2 Inv-loop μ-loop
-same-length-2 c = c .before .before .before .before .before .before .loop .inv .2
+same-length-2 c = c .before .before .before .before .before .loop .inv .2
 
 returns-2 : tie.Need-returns-2 Inv-loop μ-loop
-returns-2 c = bursting-chosen (c .before .before .before .before .before .before .loop .inv .0) (c .before .before .before .before .before .look .ensures) (c .before .before .rule-of .ensures) (no-action _ (c .before .gives-action .result) (c .before .gives-action .ensures) (c .if2 .taken))
+returns-2 c =
+    let sees = rw (c .before .before .here .given .1) at (c .before .before .before .before .look .ensures) in
+    then-reader (c .before .before .before .before .before .loop .inv .0) sees (c .stopped2 .ensures)
+
+enum-known-here-2 : tie.Need-enum-known-here-2 Inv-loop μ-loop
+enum-known-here-2 c = search needs
 
 ruled-requires : tie.Need-ruled-requires Inv-loop μ-loop
 ruled-requires c κs =
-    let h = c .before .before .before .before .before .look .ensures .faces in
-    let q = c .before .before .rule-of .ensures in
-    let short = a-action _ (c .before .gives-action .result) (c .before .gives-action .ensures) (c .if2 .left) in
-    (action-chose h (c .before .before .before .before .before .before .loop .inv .0 .between .accepted) q short, chosen-tabled _ _ _ (h .chosen), q, short)
+    let sees = rw (c .before .here2 .given .1) at (c .before .before .before .look .ensures) in
+    let h = sees .faces in
+    (action-chose h (c .before .before .before .before .loop .inv .0 .between .accepted), chosen-tabled _ _ _ (h .chosen), h .ruled)
 
-mul-put-action : tie.Need-mul-put-action Inv-loop μ-loop
-mul-put-action c = omega (arith, c .before .before .before .before .before .before .before .loop .inv .0 .between .kept .begun)
+mul-first : tie.Need-mul-first Inv-loop μ-loop
+mul-first c = omega (arith, c .before .before .before .before .before .loop .inv .0 .between .kept .begun)
 
 put-action-requires : tie.Need-put-action-requires Inv-loop μ-loop
-put-action-requires c κs = action-asks (c .before .before .ruled .ensures [] [] (omega arith)) (bursting-writes (c .before .before .before .before .before .before .before .before .before .loop .inv .0))
+put-action-requires c κs = action-asks (c .before .before .ruled .ensures [] (omega arith)) (writes-asked (c .before .before .before .before .before .before .before .loop .inv .0))
 
 enum-told : tie.Need-enum-told Inv-loop μ-loop
 enum-told c = search needs
 
+stopped-requires-3 : tie.Need-stopped-requires-3 Inv-loop μ-loop
+stopped-requires-3 c κs = search needs
+
 same-length-3 : tie.Need-same-length-3 Inv-loop μ-loop
-same-length-3 c = c .before .before .before .before .before .before .put-action .kept .1 .1 .1 .1 .1 .1 .0 ∙ c .before .before .before .before .before .before .before .before .before .before .before .before .before .before .before .before .loop .inv .1
+same-length-3 c = c .before .before .before .before .before .before .before .put-action .kept .1 .1 .1 .1 .1 .1 .0 ∙ c .before .before .before .before .before .before .before .before .before .before .before .before .before .before .before .loop .inv .1
 
 same-length-4 : tie.Need-same-length-4 Inv-loop μ-loop
-same-length-4 c = c .before .before .before .before .before .before .put-action .kept .1 .1 .1 .1 .1 .1 .1 .0 ∙ c .before .before .before .before .before .before .before .before .before .before .before .before .before .before .before .before .loop .inv .2
+same-length-4 c = c .before .before .before .before .before .before .before .put-action .kept .1 .1 .1 .1 .1 .1 .1 .0 ∙ c .before .before .before .before .before .before .before .before .before .before .before .before .before .before .before .loop .inv .2
 
 returns-3 : tie.Need-returns-3 Inv-loop μ-loop
 returns-3 c =
-    let l = c .before .before .before .before .before .before .before .before .before .before .before .before .before .before .before .before in
-    let g = c .before .before .before .before .before .before .before .before .before .before in
-    let short = a-action _ (g .before .gives-action .result) (g .before .gives-action .ensures) (g .if2 .left) in
-    bursting-left (l .loop .inv .0) (c .before .before .before .before .before .before .before .before .before .before .before .before .before .before .before .look .ensures) (g .before .before .rule-of .ensures) short (c .before .before .before .before .before .before .before .before .before .ruled .ensures) (rw (c .enum-told .given .1) at (c .before .before .before .before .before .before .put-action .ensures))
+    let p = c .before .before .before .before .before .before .before in
+    let l = p .before .before .before .before .before .before .before .before in
+    let sees = rw (p .before .before .before .before .before .here2 .given .1) at (p .before .before .before .before .before .before .before .look .ensures) in
+    then-action (l .loop .inv .0) sees (p .before .before .before .ruled .ensures) (rw (c .before .enum-told .given .1) at (p .put-action .ensures)) (c .stopped3 .ensures)
 
 enum-known-next : tie.Need-enum-known-next Inv-loop μ-loop
 enum-known-next c = search needs
 
 add-count : tie.Need-add-count Inv-loop μ-loop
-add-count c = omega (arith, c .before .before .before .before .before .before .before .before .before .before .before .before .before .before .before .before .before .loop .inv .0 .between .kept .few)
+add-count c = omega (arith, c .before .before .before .before .before .before .before .before .before .before .before .before .before .before .before .loop .inv .0 .between .kept .few)
 
 loop-less : tie.Need-loop-less Inv-loop μ-loop
 loop-less c =
-    let l = c .before .before .before .before .before .before .before .before .before .before .before .before .before .before .before .before .before in
-    let g = c .before .before .before .before .before .before .before .before .before .before .before in
-    let short = a-action _ (g .before .gives-action .result) (g .before .gives-action .ensures) (g .if2 .left) in
-    let w = bursting-put (l .loop .inv .0) (c .before .before .before .before .before .before .before .before .before .before .before .before .before .before .before .before .look .ensures) (g .before .before .rule-of .ensures) short (c .before .before .before .before .before .before .before .before .before .before .ruled .ensures) _ _ _ _ _ (rw (c .before .next .given .1) at (c .before .before .before .before .before .before .before .put-action .ensures)) in
-    w .1
+    let p = c .before .before .before .before .before .before .before in
+    let l = p .before .before .before .before .before .before .before .before in
+    let sees = rw (p .before .before .before .before .before .here2 .given .1) at (p .before .before .before .before .before .before .before .look .ensures) in
+    token-passed (l .loop .inv .0) sees (p .before .before .before .ruled .ensures) _ _ _ _ _ (rw (c .before .next .given .1) at (p .put-action .ensures)) .1
 
 loop-again : tie.Need-loop-again Inv-loop μ-loop
 loop-again c =
-    let l = c .before .before .before .before .before .before .before .before .before .before .before .before .before .before .before .before .before in
-    let g = c .before .before .before .before .before .before .before .before .before .before .before in
-    let short = a-action _ (g .before .gives-action .result) (g .before .gives-action .ensures) (g .if2 .left) in
-    let w = bursting-put (l .loop .inv .0) (c .before .before .before .before .before .before .before .before .before .before .before .before .before .before .before .before .look .ensures) (g .before .before .rule-of .ensures) short (c .before .before .before .before .before .before .before .before .before .before .ruled .ensures) _ _ _ _ _ (rw (c .before .next .given .1) at (c .before .before .before .before .before .before .before .put-action .ensures)) in
-    let p = c .before .before .before .before .before .before .before .put-action .kept in
-    (w .0, p .1 .1 .1 .1 .1 .1 .0 ∙ l .loop .inv .1, p .1 .1 .1 .1 .1 .1 .1 .0 ∙ l .loop .inv .2)
+    let p = c .before .before .before .before .before .before .before in
+    let l = p .before .before .before .before .before .before .before .before in
+    let sees = rw (p .before .before .before .before .before .here2 .given .1) at (p .before .before .before .before .before .before .before .look .ensures) in
+    (token-passed (l .loop .inv .0) sees (p .before .before .before .ruled .ensures) _ _ _ _ _ (rw (c .before .next .given .1) at (p .put-action .ensures)) .0, p .put-action .kept .1 .1 .1 .1 .1 .1 .0 ∙ l .loop .inv .1, p .put-action .kept .1 .1 .1 .1 .1 .1 .1 .0 ∙ l .loop .inv .2)
 
 pub write-tokens-spec : {M : Type 1} → statement M
 write-tokens-spec =
@@ -101,18 +108,21 @@ write-tokens-spec =
     (tie.spec
     Inv-loop
     μ-loop
+    stopped-requires
     returns
     loop-holds
     look-requires
-    rule-of-requires
-    gives-action-requires
+    enum-known-here
+    stopped-requires-2
     same-length
     same-length-2
     returns-2
+    enum-known-here-2
     ruled-requires
-    mul-put-action
+    mul-first
     put-action-requires
     enum-told
+    stopped-requires-3
     same-length-3
     same-length-4
     returns-3

@@ -1,4 +1,4 @@
--- The invariant is `Going`: what is still to come gives what the whole gives, also behind the tokens. The measure is what is left to
+-- The invariant is `Going`: what is still to come gives what the whole gives, also after the tokens. The measure is what is left to
 -- read.
 use mathlib.Core.Path.{_≡_, refl, _∙_}
 use mathlib.Core.List.{[]}
@@ -6,7 +6,7 @@ use lib.ListN.{length}
 use Rattle.laws_run.specs.Left.{left}
 use Rattle.run_turn.specs.Running.{Going}
 use Rattle.run_turn.proofs.RunLaws.{between-any, going-starts, going-stops, going-on}
-use Rattle.lexer.proofs.ItemLaws.{behind}
+use Rattle.lexer.proofs.ItemLaws.{after-tokens}
 use native.Mathlib.Omega.{arith}
 use borrow.Author.Needs.{needs}
 use Rattle.lexer.proofs.run_items.Statement.{statement}
@@ -43,7 +43,7 @@ write-tokens-requires c κs =
 turn-requires : tie.Need-turn-requires Inv-loop μ-loop
 turn-requires c κs =
     let w = c .before .before .before .before .before .before .before .before .write-tokens .ensures in
-    let g = behind (c .before .before .before .before .before .before .before .before .before .before .before .before .before .loop .inv .0) w in
+    let g = after-tokens (c .before .before .before .before .before .before .before .before .before .before .before .before .before .loop .inv .0) w in
     (g .between, w .ahead _ (g .between .named))
 
 enum-known-stop : tie.Need-enum-known-stop Inv-loop μ-loop
@@ -51,7 +51,7 @@ enum-known-stop c = search needs
 
 cast-t33 : tie.Need-cast-t33 Inv-loop μ-loop
 cast-t33 c =
-    let g = behind (c .before .before .before .before .before .before .before .before .before .before .before .before .before .before .before .before .before .before .before .before .before .before .before .loop .inv .0) (c .before .before .before .before .before .before .before .before .before .before .before .before .before .before .before .before .before .before .write-tokens .ensures) in
+    let g = after-tokens (c .before .before .before .before .before .before .before .before .before .before .before .before .before .before .before .before .before .before .before .before .before .before .before .loop .inv .0) (c .before .before .before .before .before .before .before .before .before .before .before .before .before .before .before .before .before .before .write-tokens .ensures) in
     omega (arith, g .between .kept .few)
 
 same-length : tie.Need-same-length Inv-loop μ-loop
@@ -62,7 +62,7 @@ same-length-2 c = c .before .before .before .before .before .before .before .bef
 
 returns : tie.Need-returns Inv-loop μ-loop
 returns c =
-    let g = behind (c .before .before .before .before .before .before .before .before .before .before .before .before .before .before .before .before .before .before .before .before .before .before .before .loop .inv .0) (c .before .before .before .before .before .before .before .before .before .before .before .before .before .before .before .before .before .before .write-tokens .ensures) in
+    let g = after-tokens (c .before .before .before .before .before .before .before .before .before .before .before .before .before .before .before .before .before .before .before .before .before .before .before .loop .inv .0) (c .before .before .before .before .before .before .before .before .before .before .before .before .before .before .before .before .before .before .write-tokens .ensures) in
     going-stops g _ _ _ (rw (c .before .before .before .stop .given .1) at (c .before .before .before .before .before .before .before .before .before .turn .ensures))
 
 enum-known-next : tie.Need-enum-known-next Inv-loop μ-loop
@@ -70,13 +70,13 @@ enum-known-next c = search needs
 
 add-count : tie.Need-add-count Inv-loop μ-loop
 add-count c =
-    let g = behind (c .before .before .before .before .before .before .before .before .before .before .before .before .before .before .before .before .before .before .before .before .before .before .loop .inv .0) (c .before .before .before .before .before .before .before .before .before .before .before .before .before .before .before .before .before .write-tokens .ensures) in
+    let g = after-tokens (c .before .before .before .before .before .before .before .before .before .before .before .before .before .before .before .before .before .before .before .before .before .before .loop .inv .0) (c .before .before .before .before .before .before .before .before .before .before .before .before .before .before .before .before .before .write-tokens .ensures) in
     omega (arith, g .between .kept .few)
 
 loop-less : tie.Need-loop-less Inv-loop μ-loop
 loop-less c =
     let w = c .before .before .before .before .before .before .before .before .before .before .before .before .before .before .before .before .before .write-tokens .ensures in
-    let g = behind (c .before .before .before .before .before .before .before .before .before .before .before .before .before .before .before .before .before .before .before .before .before .before .loop .inv .0) w in
+    let g = after-tokens (c .before .before .before .before .before .before .before .before .before .before .before .before .before .before .before .before .before .before .before .before .before .before .loop .inv .0) w in
     let on = going-on g _ _ _ _ (rw (c .before .before .next .given .1) at (c .before .before .before .before .before .before .before .before .turn .ensures)) in
     omega (arith, on .1, w .less)
 
@@ -85,7 +85,7 @@ loop-again c =
     let t = c .before .before .before .before .before .before .before .before in
     let w = c .before .before .before .before .before .before .before .before .before .before .before .before .before .before .before .before .before in
     let l = c .before .before .before .before .before .before .before .before .before .before .before .before .before .before .before .before .before .before .before .before .before .before in
-    let g = behind (l .loop .inv .0) (w .write-tokens .ensures) in
+    let g = after-tokens (l .loop .inv .0) (w .write-tokens .ensures) in
     (going-on g _ _ _ _ (rw (c .before .before .next .given .1) at (t .turn .ensures)) .0, t .turn .kept .1 .1 .1 .1 .1 .1 .1 .1 .0 ∙ w .write-tokens .kept .1 .1 .1 .1 .1 .1 .1 .0 ∙ l .loop .inv .1, t .turn .kept .1 .1 .1 .1 .1 .1 .1 .1 .1 .0 ∙ w .write-tokens .kept .1 .1 .1 .1 .1 .1 .1 .1 .0 ∙ l .loop .inv .2)
 
 pub run-items-spec : {M : Type 1} → statement M

@@ -1,11 +1,10 @@
--- The invariant is `Reaching`: what is read from there is what the first reads, also behind white space. The measure is what is left
+-- The invariant is `Reaching`: what is read from there is what the first reads, also after white space. The measure is what is left
 -- of the text.
 use Prim.Native.Nat.{_-_}
-use mathlib.Core.Path.{refl}
+use mathlib.Core.Path.{refl, sym, _∙_}
 use lib.ListN.{length}
-use Rattle.rules.proofs.RuleLaws.{end-fits, line-fits}
-use Rattle.rules.proofs.RuleLaws.{chosen-tabled}
-use Rattle.lookahead.proofs.SightLaws.{Reaching, reaching-starts, reaching-behind, chosen, passed-white, passed-line, seen}
+use Rattle.rules.proofs.RuleLaws.{chosen-tabled, end-fits, line-fits}
+use Rattle.lookahead.proofs.LookaheadLaws.{Reaching, reaching-starts, reaching-after, chosen, passed-white, passed-line, seen}
 use native.Mathlib.Omega.{arith}
 use borrow.Author.Needs.{needs}
 use Rattle.lookahead.proofs.look.Statement.{statement}
@@ -22,8 +21,8 @@ loop-holds c =
     let p = c .before .before .pre in
     reaching-starts (record { standing = p .standing; between = p .between; accepted = p .lent .classes })
 
-behind-white-requires : tie.Need-behind-white-requires Inv-loop μ-loop
-behind-white-requires c κs = c .loop .inv .ready
+after-white-requires : tie.Need-after-white-requires Inv-loop μ-loop
+after-white-requires c κs = c .loop .inv .ready
 
 cast-select : tie.Need-cast-select Inv-loop μ-loop
 cast-select c = search needs
@@ -34,28 +33,68 @@ select-requires c κs = c .before .before .before .before .before .before .pre .
 rule-of-requires : tie.Need-rule-of-requires Inv-loop μ-loop
 rule-of-requires c κs = chosen-tabled _ _ _ (c .select .ensures) .place
 
+enum-told : tie.Need-enum-told Inv-loop μ-loop
+enum-told c = search needs
+
 moved-requires : tie.Need-moved-requires Inv-loop μ-loop
-moved-requires c κs = end-fits (chosen (reaching-behind (c .before .before .before .before .before .before .loop .inv) (c .before .before .before .before .before .behind-white .ensures)) (c .before .before .select .ensures) (c .before .rule-of .ensures) (c .if1 .taken) refl)
+moved-requires c κs =
+    let d = c .before .before in
+    let k = reaching-after (d .before .before .before .before .before .loop .inv) (d .before .before .before .before .after-white .ensures) in
+    end-fits (chosen k (d .before .select .ensures) (sym (d .rule-of .ensures) ∙ c .enum-told .given .1) refl)
 
 loop-less : tie.Need-loop-less Inv-loop μ-loop
-loop-less c = omega (arith, passed-white (reaching-behind (c .before .before .before .before .before .before .before .loop .inv) (c .before .before .before .before .before .before .behind-white .ensures)) (c .before .before .before .select .ensures) (c .before .before .rule-of .ensures) (c .before .if1 .taken) (c .moved .ensures) .1, c .before .before .before .before .before .before .behind-white .ensures .less)
+loop-less c =
+    let d = c .before .before .before in
+    let k = reaching-after (d .before .before .before .before .before .loop .inv) (d .before .before .before .before .after-white .ensures) in
+    let passed = passed-white k (d .before .select .ensures) (sym (d .rule-of .ensures) ∙ c .before .enum-told .given .1) (c .moved .ensures) in
+    omega (arith, passed .1, d .before .before .before .before .after-white .ensures .less)
 
 loop-again : tie.Need-loop-again Inv-loop μ-loop
-loop-again c = passed-white (reaching-behind (c .before .before .before .before .before .before .before .loop .inv) (c .before .before .before .before .before .before .behind-white .ensures)) (c .before .before .before .select .ensures) (c .before .before .rule-of .ensures) (c .before .if1 .taken) (c .moved .ensures) .0
+loop-again c =
+    let d = c .before .before .before in
+    let k = reaching-after (d .before .before .before .before .before .loop .inv) (d .before .before .before .before .after-white .ensures) in
+    passed-white k (d .before .select .ensures) (sym (d .rule-of .ensures) ∙ c .before .enum-told .given .1) (c .moved .ensures) .0
+
+enum-told-2 : tie.Need-enum-told-2 Inv-loop μ-loop
+enum-told-2 c = search needs
 
 next-line-requires : tie.Need-next-line-requires Inv-loop μ-loop
 next-line-requires c κs =
-    let h = chosen (reaching-behind (c .before .before .before .before .before .before .before .loop .inv) (c .before .before .before .before .before .before .behind-white .ensures)) (c .before .before .before .select .ensures) (c .before .before .rule-of .ensures) (c .if2 .taken) refl in
+    let d = c .before .before in
+    let k = reaching-after (d .before .before .before .before .before .loop .inv) (d .before .before .before .before .after-white .ensures) in
+    let h = chosen k (d .before .select .ensures) (sym (d .rule-of .ensures) ∙ c .enum-told2 .given .1) refl in
     (end-fits h, line-fits h)
 
 loop-less-2 : tie.Need-loop-less-2 Inv-loop μ-loop
-loop-less-2 c = omega (arith, passed-line (reaching-behind (c .before .before .before .before .before .before .before .before .loop .inv) (c .before .before .before .before .before .before .before .behind-white .ensures)) (c .before .before .before .before .select .ensures) (c .before .before .before .rule-of .ensures) (c .before .if2 .taken) (c .next-line .ensures) .1, c .before .before .before .before .before .before .before .behind-white .ensures .less)
+loop-less-2 c =
+    let d = c .before .before .before in
+    let k = reaching-after (d .before .before .before .before .before .loop .inv) (d .before .before .before .before .after-white .ensures) in
+    let passed = passed-line k (d .before .select .ensures) (sym (d .rule-of .ensures) ∙ c .before .enum-told2 .given .1) (c .next-line .ensures) in
+    omega (arith, passed .1, d .before .before .before .before .after-white .ensures .less)
 
 loop-again-2 : tie.Need-loop-again-2 Inv-loop μ-loop
-loop-again-2 c = passed-line (reaching-behind (c .before .before .before .before .before .before .before .before .loop .inv) (c .before .before .before .before .before .before .before .behind-white .ensures)) (c .before .before .before .before .select .ensures) (c .before .before .before .rule-of .ensures) (c .before .if2 .taken) (c .next-line .ensures) .0
+loop-again-2 c =
+    let d = c .before .before .before in
+    let k = reaching-after (d .before .before .before .before .before .loop .inv) (d .before .before .before .before .after-white .ensures) in
+    passed-line k (d .before .select .ensures) (sym (d .rule-of .ensures) ∙ c .before .enum-told2 .given .1) (c .next-line .ensures) .0
+
+enum-known-rule : tie.Need-enum-known-rule Inv-loop μ-loop
+enum-known-rule c = search needs
 
 returns : tie.Need-returns Inv-loop μ-loop
-returns c = seen (reaching-behind (c .before .before .before .before .before .before .before .loop .inv) (c .before .before .before .before .before .before .behind-white .ensures)) (c .before .before .before .select .ensures) (c .before .before .rule-of .ensures) (c .before .if1 .left) (c .if2 .left)
+returns c =
+    let d = c .before .before .before in
+    let k = reaching-after (d .before .before .before .before .before .loop .inv) (d .before .before .before .before .after-white .ensures) in
+    seen k (d .before .select .ensures) (sym (d .rule-of .ensures) ∙ c .before .rule .given .1)
+
+enum-known-rule-2 : tie.Need-enum-known-rule-2 Inv-loop μ-loop
+enum-known-rule-2 c = search needs
+
+returns-2 : tie.Need-returns-2 Inv-loop μ-loop
+returns-2 c =
+    let d = c .before .before .before in
+    let k = reaching-after (d .before .before .before .before .before .loop .inv) (d .before .before .before .before .after-white .ensures) in
+    seen k (d .before .select .ensures) (sym (d .rule-of .ensures) ∙ c .before .rule2 .given .1)
 
 pub look-spec : {M : Type 1} → statement M
 look-spec =
@@ -64,14 +103,19 @@ look-spec =
     Inv-loop
     μ-loop
     loop-holds
-    behind-white-requires
+    after-white-requires
     cast-select
     select-requires
     rule-of-requires
+    enum-told
     moved-requires
     loop-less
     loop-again
+    enum-told-2
     next-line-requires
     loop-less-2
     loop-again-2
-    returns)
+    enum-known-rule
+    returns
+    enum-known-rule-2
+    returns-2)

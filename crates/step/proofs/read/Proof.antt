@@ -9,8 +9,7 @@ enum-known-ahead c = search needs
 read-choice-requires : tie.Need-read-choice-requires
 read-choice-requires c κs =
     let p = c .before .before .before .before .before .before .before .pre in
-    let h = rw (c .before .ahead .given .1) at (p .0) in
-    (h .0, h .1, p .1)
+    (rw (c .before .ahead .given .1) at (p .0), p .1)
 
 enum-known-ahead-2 : tie.Need-enum-known-ahead-2
 enum-known-ahead-2 c = search needs

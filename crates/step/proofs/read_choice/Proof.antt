@@ -16,12 +16,12 @@ returns c = next-reads _ _ _ _ _ (turn-ends _ _ _ _ _ (c .before .if1 .taken) (c
 act-requires : tie.Need-act-requires
 act-requires c κs =
     let p = c .before .before .before .before .before .before .pre in
-    (acts (p .0) (p .2) (c .if1 .left), p .0 .on, p .1)
+    (acts (p .0) (p .1) (c .if1 .left), p .0 .ruled)
 
 returns-2 : tie.Need-returns-2
 returns-2 c =
     let p = c .before .before .before .before .before .before .before .pre in
-    acted (p .0) (p .2) (c .before .if1 .left) _ (c .act .ensures)
+    acted (p .0) (p .1) (c .before .if1 .left) _ (c .act .ensures)
 
 pub read-choice-spec : {M : Type 1} → statement M
 read-choice-spec =

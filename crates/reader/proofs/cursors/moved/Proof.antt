@@ -1,4 +1,4 @@
--- The state is the definition's behind what was read.
+-- The state is the definition's after what was read.
 use borrow.Author.Needs.{needs}
 use Rattle.reader.proofs.cursors.moved.Statement.{statement}
 use Rattle.reader.proofs.cursors.moved.Tie as tie

@@ -1,4 +1,4 @@
--- The state is the definition's new line behind what was read.
+-- The state is the definition's new line after what was read.
 use borrow.Author.Needs.{needs}
 use Rattle.reader.proofs.cursors.next_line.Statement.{statement}
 use Rattle.reader.proofs.cursors.next_line.Tie as tie

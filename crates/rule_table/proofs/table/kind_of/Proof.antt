@@ -129,7 +129,7 @@ returns-28 c = of-keys kind-of (48 ∷ []) refl (c .match .keys28)
 
 returns-29 : tie.Need-returns-29
 unfolding place-kinds kind kind-names number-from mem-cp
-returns-29 c = of-others arms (map kind place-kinds) (c .before .args .place) refl refl (c .match .rest) ∙ List·getD-map kind place-kinds (c .before .args .place) ""
+returns-29 c = of-others arms (map kind place-kinds) 0 (c .before .args .place) refl refl (c .match .rest) ∙ List·getD-map kind place-kinds (c .before .args .place) ""
 
 pub kind-of-spec : {M : Type 1} → statement M
 kind-of-spec =

@@ -1,4 +1,4 @@
--- The range's positions are asked for one behind the other.
+-- The range's positions are asked for one after the other.
 use Rattle.reader.proofs.ActionBuilding.{over-reads}
 use Rattle.reader.proofs.Spanning.{asked-stands, end-asked, same-line}
 use borrow.Author.Needs.{needs}

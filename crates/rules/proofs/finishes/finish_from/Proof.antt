@@ -1,4 +1,4 @@
--- The token's positions are asked for one behind the other.
+-- The token's positions are asked for one after the other.
 use Rattle.reader.proofs.ActionBuilding.{end-small, span-asked, span-reads}
 use native.Mathlib.Omega.{arith}
 use borrow.Author.Needs.{needs}

@@ -1,4 +1,4 @@
--- Where a run stands behind its tokens. s is the text, f the class file; rs and ps are the buffers before, rs′ and ps′ those after.
+-- Where a run stands after its tokens. s is the text, f the class file; rs and ps are the buffers before, rs′ and ps′ those after.
 use Prim.Native.Nat.{ℕ, _≤_}
 use mathlib.Core.Path.{_≡_}
 use mathlib.Core.List.{List, []}
@@ -8,11 +8,11 @@ use Rattle.laws_run.specs.Left.{left}
 use Rattle.laws_run.specs.Going.{run-from}
 use Rattle.reader.specs.declared.Cursor.{Cursor}
 use Rattle.run_turn.specs.Running.{writing, Between, StandsAhead}
-use Rattle.fast_path.specs.declared.Burst.{Burst}
+use Rattle.fast_path.specs.declared.TokensWritten.{TokensWritten}
 
--- behind its tokens a run stands between two items, what is still to come is what was to come before them, whatever the file's name is,
+-- after its tokens a run stands between two items, what is still to come is what was to come before them, whatever the file's name is,
 -- there is no more to read, and what stands ahead is said
-pub record BurstsTo (s f : Bytes) (start : Cursor) (begun filled : ℕ) (rs : List ℕ) (ps : Bytes) (b : Burst) (rs′ : List ℕ) (ps′ : Bytes) : Type 0 where
+pub record WritesTokens (s f : Bytes) (start : Cursor) (begun filled : ℕ) (rs : List ℕ) (ps : Bytes) (b : TokensWritten) (rs′ : List ℕ) (ps′ : Bytes) : Type 0 where
   pub between : Between s [] f (b .at) (b .count) (b .used) rs′ ps′
   pub same : (name : Bytes) → length name ≤ 4096
       → run-from s name f (writing (b .at) (b .count) (b .used) rs′ ps′) ≡ run-from s name f (writing start begun filled rs ps)

@@ -1,20 +1,20 @@
 -- The invariant: the reader at `here` reads what the first does. The measure is what is left of the text.
 use Prim.Native.Nat.{_-_}
 use lib.ListN.{length}
-use Rattle.lookahead.specs.White.{Behind}
-use Rattle.lookahead.proofs.TurnLaws.{behind-starts, behind-on}
+use Rattle.lookahead.specs.White.{AfterWhite}
+use Rattle.lookahead.proofs.TurnLaws.{after-white-starts, after-white-on}
 use borrow.Author.Needs.{needs}
-use Rattle.lookahead.proofs.white_space.behind_white.Statement.{statement}
-use Rattle.lookahead.proofs.white_space.behind_white.Tie as tie
+use Rattle.lookahead.proofs.white_space.after_white.Statement.{statement}
+use Rattle.lookahead.proofs.white_space.after_white.Tie as tie
 
 abbrev Inv-loop : tie.InvT-loop
-Inv-loop text classes here₀ here = Behind text classes here₀ here
+Inv-loop text classes here₀ here = AfterWhite text classes here₀ here
 
 abbrev μ-loop : tie.MeasureT-loop
 μ-loop text classes here₀ here = length text - here .st .offset
 
 loop-holds : tie.Need-loop-holds Inv-loop μ-loop
-loop-holds c = behind-starts (c .before .before .pre)
+loop-holds c = after-white-starts (c .before .before .pre)
 
 past-white-requires : tie.Need-past-white-requires Inv-loop μ-loop
 past-white-requires c κs = c .loop .inv .ready
@@ -31,15 +31,15 @@ returns c = c .before .before .before .loop .inv
 loop-less : tie.Need-loop-less Inv-loop μ-loop
 loop-less c =
     let d = c .before .before .before in
-    behind-on (d .before .loop .inv) (rw (c .before .next .given .1) at (d .past-white .ensures)) .1
+    after-white-on (d .before .loop .inv) (rw (c .before .next .given .1) at (d .past-white .ensures)) .1
 
 loop-again : tie.Need-loop-again Inv-loop μ-loop
 loop-again c =
     let d = c .before .before .before in
-    behind-on (d .before .loop .inv) (rw (c .before .next .given .1) at (d .past-white .ensures)) .0
+    after-white-on (d .before .loop .inv) (rw (c .before .next .given .1) at (d .past-white .ensures)) .0
 
-pub behind-white-spec : {M : Type 1} → statement M
-behind-white-spec =
+pub after-white-spec : {M : Type 1} → statement M
+after-white-spec =
     tie.close
     (tie.spec
     Inv-loop
