@@ -6,7 +6,7 @@ its sixteen numbers (word 6 being 0) and its payload in hexadecimal. runs.jsonl 
 `text`, `name` and `classes` in hexadecimal, `state`, `records` and `payload` (how much is lent), `refusal`, `offset`, `stop`, `count`,
 `after` (the state handed back), `items` with word 6.
 
-Nothing here comes from a run of the lexer: the state behind an item is reckoned from the position where the item ends."""
+Nothing here comes from a run of the lexer: the state after an item is reckoned from the position where the item ends."""
 import json
 import pathlib
 import re
@@ -30,7 +30,7 @@ class Wrong(Exception):
 
 class Item:
     """An item that should come: its numbers and its payload; and, once reckoned, the offsets and the first position of the bytes that it
-    is read from, and the state behind it."""
+    is read from, and the state after it."""
 
     def __init__(self, words, payload):
         self.words, self.payload = words, payload
@@ -79,7 +79,7 @@ def size_of(words):
 
 
 def bytes_of(word):
-    """The bytes that a line says: behind a quote as they are, or pairs of digits, or a star with a number and pairs."""
+    """The bytes that a line says: after a quote as they are, or pairs of digits, or a star with a number and pairs."""
     if word.startswith("'"):
         return word[1:].encode()
     times = 1
@@ -222,7 +222,7 @@ def read_runs(path):
     return cases
 
 
-# ---- The state behind each item
+# ---- The state after each item
 
 
 def in_class(classes, k, code):
@@ -297,17 +297,17 @@ class Walk:
             self.at += self.width()
 
 
-def depth_behind(text, item, depth):
-    """How many comments are open behind a piece of one, `depth` being open before it."""
+def depth_after(text, item, depth):
+    """How many comments are open after a piece of one, `depth` being open before it."""
     opened = re.findall(rb"\(\*|\*\)", text[item.begin : item.end]).count(b"(*")
     return depth + opened - 1
 
 
-def state_behind(case, item, walk, before):
-    """The state behind an item that the walk has passed, from the one before it."""
+def state_after(case, item, walk, before):
+    """The state after an item that the walk has passed, from the one before it."""
     words, mode, depth, start = item.words, 0, 0, [0, 0]
     if words[0] == COMMENT and (before[5] == 1 or case.text.startswith(b"(*", item.begin)):
-        depth = depth_behind(case.text, item, before[6])
+        depth = depth_after(case.text, item, before[6])
         if depth:
             mode, start = 1, words[2:4]
     elif words[0] == 1 and words[1] in (EOF, ERROR):
@@ -316,7 +316,7 @@ def state_behind(case, item, walk, before):
 
 
 def reckon(case):
-    """Gives each item of a case that isn't refused its bytes and the state behind it, and the case the places of what is passed between
+    """Gives each item of a case that isn't refused its bytes and the state after it, and the case the places of what is passed between
     items."""
     state = case.first_state()
     for number, item in enumerate(case.items, 1):
@@ -331,9 +331,9 @@ def reckon(case):
                 raise case.wrong("item %d ends at %d:%d, which the text doesn't come to" % (number, words[4], words[5]))
             walk.step(has_lines, is_string)
         item.end = walk.at
-        state = item.after = state_behind(case, item, walk, state)
+        state = item.after = state_after(case, item, walk, state)
     if case.after not in (None, state):
-        raise case.wrong("the state behind its last item is %s" % state)
+        raise case.wrong("the state after its last item is %s" % state)
 
 
 def check(case):

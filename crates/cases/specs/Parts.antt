@@ -1,4 +1,4 @@
--- The parts of a frame stand one behind the other in the buffer, and it has no fewer bytes than they.
+-- The parts of a frame stand one after the other in the buffer, and it has no fewer bytes than they.
 use Prim.Native.Nat.{ℕ, _≤_}
 use mathlib.Core.Path.{_≡_}
 use mathlib.Core.List.{List}

@@ -8,7 +8,7 @@
 --   elim x [ p ↦ e | q ↦ g ]   the arm whose pattern fits x; only that arm is computed
 --   let x = e in g         g, in which x stands for e
 --   (a, b, c), A × B × C   a tuple and its type; `.0`, `.1`, `.2` are its parts, and `.line` the part of that name of a struct
---   a ∷ l, [], l ++ m      a list: its first element and the others, none, two one behind the other
+--   a ∷ l, [], l ++ m      a list: its first element and the others, none, two one after the other
 --   match-ident            a name: the source's `match_ident`; a `-` with blanks around it is the difference of two numbers, 0 at least
 --   a ≡ b                  a and b are equal, which is a type: what has it is a proof
 use Prim.Native.Nat.{ℕ, zero, suc}

@@ -1,4 +1,4 @@
--- Characters behind a backslash: `unescape` and `string_of_cp`.
+-- Characters after a backslash: `unescape` and `string_of_cp`.
 use Prim.Native.Nat.{ℕ, _+_}
 use mathlib.Core.Bool.{Bool, true, false}
 use Rattle.definition.specs.Basics.{Bytes, ch, between, if_then_else_}

@@ -166,7 +166,7 @@ class-rows =
     ∷ ("a length of 65,537 is refusal 3", yes-or-no (bad-class-length 65537), 1 ∷ [])
     ∷ ("an offset of 49 for 48 is refusal 4", checked (set no-ranges 4 49), 4 ∷ [])
     ∷ ("the offset of the last class, which is empty", checked (set no-ranges 44 56), 4 ∷ [])
-    ∷ ("a byte behind the last range is refusal 4", checked (no-ranges ++ (0 ∷ [])), 4 ∷ [])
+    ∷ ("a byte after the last range is refusal 4", checked (no-ranges ++ (0 ∷ [])), 4 ∷ [])
     ∷ ("a last range cut short", checked (take 55 (file [] ((200, 201) ∷ []))), 4 ∷ [])
     ∷ ("2^29 ranges, whose bytes 32 bits don't count", checked (set no-ranges 43 32), 4 ∷ [])
     ∷ ("3 goes before 4", checked (set (take 47 no-ranges) 4 49), 3 ∷ [])
@@ -210,7 +210,7 @@ refusal-rows =
     ∷ ("below the least of four bytes", bad-at (0xF0 ∷ 0x8F ∷ 0xBF ∷ 0xBF ∷ []), 8 ∷ 0 ∷ [])
     ∷ ("the greatest code point", bad-at (0xF4 ∷ 0x8F ∷ 0xBF ∷ 0xBF ∷ []), 0 ∷ 0 ∷ [])
     ∷ ("above the greatest code point", bad-at (0xF4 ∷ 0x90 ∷ 0x80 ∷ 0x80 ∷ []), 8 ∷ 0 ∷ [])
-    ∷ ("a byte that continues nothing, behind a character of two bytes", bad-at (0xC3 ∷ 0xA9 ∷ 0x80 ∷ []), 8 ∷ 2 ∷ [])
+    ∷ ("a byte that continues nothing, after a character of two bytes", bad-at (0xC3 ∷ 0xA9 ∷ 0x80 ∷ []), 8 ∷ 2 ∷ [])
     ∷ ("8 goes before 9", answer (run (255 ∷ []) [] no-ranges (between-items 9 0 0 0 0) [] []), 8 ∷ 0 ∷ 0 ∷ 0 ∷ state-words (between-items 9 0 0 0 0))
     ∷ ("refusal 9 alters nothing",
       all-of (run [] [] no-ranges (between-items 1 0 0 0 0) (7 ∷ []) (8 ∷ [])),
@@ -294,8 +294,8 @@ stop-rows =
 abbrev pub nested : Bytes
 nested = cps "(* a (* b *) c *)"
 
-abbrev pub behind-first : State
-behind-first = record {
+abbrev pub after-first : State
+after-first = record {
   offset = 12;
   line = 1;
   bol = 0;
@@ -308,9 +308,9 @@ behind-first = record {
 
 unfoldable pub carried-rows : List Row
 carried-rows =
-    ("after a piece the comment is open", answer (run-on nested (started 1 0) 16 99), 0 ∷ 0 ∷ 1 ∷ 1 ∷ state-words behind-first)
-    ∷ ("mode 1 goes on behind it",
-      flattened (said (run-on nested behind-first 99 99)),
+    ("after a piece the comment is open", answer (run-on nested (started 1 0) 16 99), 0 ∷ 0 ∷ 1 ∷ 1 ∷ state-words after-first)
+    ∷ ("mode 1 goes on after it",
+      flattened (said (run-on nested after-first 99 99)),
       flattened (a-comment 1 0 1 17 2 true " c *)" ∷ eof 1 17 2 ∷ []))
     ∷ ("at the text's end each level gives a piece",
       flattened (said (run-on (cps "abc") (in-comment 3 1 2 1 0) 99 99)),

@@ -84,7 +84,7 @@ use Rattle.definition.specs.Select.{keep, try-words, try-all, one-of-the
 use Rattle.definition.specs.Numbers.{
   strips,
   strip-left,
-  behind,
+  strip-if-last,
   strip-right,
   clean-number,
   digit-value,
@@ -140,7 +140,7 @@ unfolding
     early-literals kw-op-rules mixfix-rules later max-list one match-lit plus match-newline match-ident match-constructor match-escape
     match-char match-char-lit match-integer match-xinteger any-integer-ends match-int-suffix match-int-usuffix match-floatp skip-sign is-e
     match-floate match-real match-bad-number match-backtick-ident no-comment keep try-words try-all one-of-then-symbols lit-then-symbols
-    places select strips strip-left behind strip-right clean-number digit-value value-from base-of after-zero int-of-string show code-at
+    places select strips strip-left strip-if-last strip-right clean-number digit-value value-from base-of after-zero int-of-string show code-at
     hex-value unescape is-surrogate onto-first split-lines join-lines empty-prefix trim-width maybe-trim-lines close-comment at-character
     offsets-sound counts-sound depth-sound comment-sound sound start after comment-stop comment line-comment string-stop escape-turn
     string-lit blob-stop blob use-lang place-rules rule-of starts-with act token-turn next-token step put run-turn run-items text-too-long

@@ -15,14 +15,14 @@ unfoldable pub strip-left : Bytes → Bytes
 strip-left [] = []
 strip-left (b ∷ l) = elim (strips b) [ true ↦ strip-left l | false ↦ b ∷ l ]
 
--- `right`: a byte goes if it is one of these and nothing is left behind it
-unfoldable pub behind : ℕ → Bytes → Bytes
-behind b [] = if strips b then [] else b ∷ []
-behind b (x ∷ l) = b ∷ x ∷ l
+-- `right`: a byte goes if it is one of these and nothing is left after it
+unfoldable pub strip-if-last : ℕ → Bytes → Bytes
+strip-if-last b [] = if strips b then [] else b ∷ []
+strip-if-last b (x ∷ l) = b ∷ x ∷ l
 
 unfoldable pub strip-right : Bytes → Bytes
 strip-right [] = []
-strip-right (b ∷ l) = behind b (strip-right l)
+strip-right (b ∷ l) = strip-if-last b (strip-right l)
 
 unfoldable pub clean-number : Bytes → Bytes
 clean-number s = strip-right (strip-left s)

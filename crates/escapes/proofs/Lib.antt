@@ -1,2 +1,2 @@
 pub mod Hex
-pub mod Behind
+pub mod EscapeLaws

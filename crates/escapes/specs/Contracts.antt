@@ -1,4 +1,4 @@
--- What the functions of escapes ask for, and what a byte behind a backslash denotes.
+-- What the functions of escapes ask for, and what a byte after a backslash denotes.
 use Prim.Native.Nat.{ℕ, _+_, _≤_, _<_}
 use lib.Dec.{eqb}
 use lib.ListN.{length}
@@ -10,11 +10,11 @@ pub record Digits (s : Bytes) (k n : ℕ) : Type 0 where
   pub within : k ≤ length s
   pub few : n ≤ 4
 
--- a byte stands behind the one at i
-abbrev pub Behind : Bytes → ℕ → Type 0
-Behind s i = i + 1 < length s
+-- a byte stands after the one at i
+abbrev pub ByteFollows : Bytes → ℕ → Type 0
+ByteFollows s i = i + 1 < length s
 
--- what the byte c at i + 1 denotes behind a backslash
+-- what the byte c at i + 1 denotes after a backslash
 unfoldable pub escaped : Bytes → ℕ → ℕ → ℕ
 escaped s i c =
     if eqb c (ch "0") then 0 else

@@ -9,7 +9,7 @@ use utf8::characters::byte;
 use utf8::sequence_at;
 ghost use mathlib.Core.Path.{_≡_};
 ghost use Rattle.definition.specs.Escapes.{code-at, hex-value, unescape, is-surrogate};
-ghost use Rattle.escapes.specs.Contracts.{Digits, Behind, escaped};
+ghost use Rattle.escapes.specs.Contracts.{Digits, ByteFollows, escaped};
 
 // The code point at i, 0 where no character stands.
 fn code_at(text: &[u8], i: usize) -> u32
@@ -41,7 +41,7 @@ fn hex_value(text: &[u8], k: usize, n: usize) -> u32
 
 // What the byte c at i + 1, after a backslash, denotes, together with what follows it.
 fn escaped(text: &[u8], i: usize, c: u8) -> u32
-    requires { ⌜ Behind (now text) i ⌝ }
+    requires { ⌜ ByteFollows (now text) i ⌝ }
     ensures { λ r. ⌜ r ≡ escaped (now (text .entry)) i c ⌝ }
 {
     match c {

@@ -1,5 +1,5 @@
 -- A name in backticks: the loop that reads it finds the one end of its pattern. Each turn is decided by the characters that stand there:
--- one that the name may have, one behind a backtick, or neither. Rests on the shapes and on the laws of loops.
+-- one that the name may have, one after a backtick, or neither. Rests on the shapes and on the laws of loops.
 use Prim.Native.Nat.{ℕ, _+_, _-_, _≤_, _<_}
 use mathlib.Core.Path.{_≡_, refl, sym, subst, _∙_}
 use mathlib.Core.Bool.{Bool, true, not, _&&_}
@@ -29,7 +29,7 @@ use Rattle.laws_longest.proofs.Literals.{not-both}
 abbrev ok : ℕ → Bool
 ok c = not (eqb c (ch "`")) && not (is-newline-char c)
 
--- One such, or one behind a backtick.
+-- One such, or one after a backtick.
 abbrev item : Re
 item = alt backtick-free (seq (text "`") backtick-free)
 
@@ -56,9 +56,9 @@ module _ (s : Bytes) where
       let z : m ≡ n = sym q ∙ step-same a b .0 in
       ok-or-tick (x .code) (x .passes) (step-same x (subst (λ (v : ℕ). Step s (λ c. eqb c (ch "`")) v n′) (sym z) y) .1)
 
-  -- A backtick and a character behind it are found by the second test of a turn.
-  behind-right : (j : ℕ) → Right (At s (seq (text "`") backtick-free) j) (only (byte-is (ch "`") s j) (one ok s (j + 1)))
-  behind-right j = right-letter s (ch "`") (omega arith) j (j + 1) refl (λ _. one-right s ok (j + 1))
+  -- A backtick and a character after it are found by the second test of a turn.
+  after-right : (j : ℕ) → Right (At s (seq (text "`") backtick-free) j) (only (byte-is (ch "`") s j) (one ok s (j + 1)))
+  after-right j = right-letter s (ch "`") (omega arith) j (j + 1) refl (λ _. one-right s ok (j + 1))
 
   -- Two backticks are found by their tests.
   ticks-right : (j : ℕ) → Right (At s (text "``") j) (only (byte-is (ch "`") s j && byte-is (ch "`") s (j + 1)) (To (j + 2)))
@@ -73,12 +73,12 @@ module _ (s : Bytes) where
   abbrev Left : ℕ × ℕ → ℕ → Type 0
   Left (j, n) e = (m : ℕ) × Chain (At s item) j m × ((0 < n) ⊎ (j < m)) × At s (text "``") m e
 
-  -- An item is read: what is left starts behind it.
+  -- An item is read: what is left starts after it.
   read-on : (j n k : ℕ) → At s item j k → (e : ℕ) → Left (j, n) e → Left (k, n + 1) e
   read-on j n k a e (m, stop q, h, t) = absurd (item-or-ticks j k e a (subst (λ (x : ℕ). At s (text "``") x e) (sym q) t))
   read-on j n k a e (m, step x b c, h, t) = (m, subst (λ (y : ℕ). Chain (At s item) y m) (item-single j x k b a) c, inl (omega arith), t)
 
-  -- And what is left behind it was left before.
+  -- And what is left after it was left before.
   read-back : (j n k : ℕ) → At s item j k → (e : ℕ) → Left (k, n + 1) e → Left (j, n) e
   read-back j n k a e (m, c, h, t) = (m, step k a c, inr (omega (arith, at-ahead s item j k refl a, chain-forward s (at-forward s item) c)), t)
 
@@ -122,12 +122,12 @@ module _ (s : Bytes) where
         go j n h =
             let L : Turn (ℕ × ℕ) Match → Type 0 = Leads (λ b. Kept b × (length s - b .0 < length s - j)) (Right (Left start)) in
             by-match L (one ok s j) (λ k q. turn-on j n k h (inl (one-right s ok j .fits k q))) λ first.
-            by-match L (only (byte-is (ch "`") s j) (one ok s (j + 1))) (λ k q. turn-on j n k h (inr (behind-right j .fits k q))) λ second.
+            by-match L (only (byte-is (ch "`") s j) (one ok s (j + 1))) (λ k q. turn-on j n k h (inr (after-right j .fits k q))) λ second.
             right-map (h .from) (h .to) (none-left j n (no-item j first second))
           where
             no-item : (j : ℕ) → one ok s j ≡ Nothing → only (byte-is (ch "`") s j) (one ok s (j + 1)) ≡ Nothing → (k : ℕ) → At s item j k → ⊥
             no-item j p q k (inl a) = some-end (sym p ∙ one-right s ok j .top k a .1)
-            no-item j p q k (inr a) = some-end (sym q ∙ behind-right j .top k a .1)
+            no-item j p q k (inr a) = some-end (sym q ∙ after-right j .top k a .1)
 
     -- So does the loop.
     loop-right : Right (Left start) (loop (backtick-turn s) (λ a. Nothing) (fuel s) start)

@@ -1,7 +1,7 @@
 -- A number that goes on as an identifier: what its matcher finds is an end of the pattern, and every end of the pattern is reached by
 -- it or by an integer of two digits or more. For `12` the pattern fits too, as 1 and then 2, and the matcher finds nothing: there the
 -- integer reaches as far.
--- "Since digits are ident chars, the shortest float matches are the relevant ones": behind the shortest part of a number with a point
+-- "Since digits are ident chars, the shortest float matches are the relevant ones": after the shortest part of a number with a point
 -- or an exponent, digits are the first characters of the identifier. Rests on integers and on the shortest parts.
 use Prim.Native.Nat.{ℕ, zero, suc, _≤_, _<_}
 use mathlib.Core.Path.{_≡_, refl, sym, subst}
@@ -44,7 +44,7 @@ Within p (seq r q) = Within p r × Within p q
 Within p (alt r q) = Within p r × Within p q
 Within p (many r) = Within p r
 
--- Steps and others behind them are steps in a row.
+-- Steps and others after them are steps in a row.
 chain-join : {P : ℕ → ℕ → Type 0} {i j k : ℕ} → Chain P i j → Chain P j k → Chain P i k
 chain-join {P} {k = k} (stop q) d = subst (λ (x : ℕ). Chain P x k) (sym q) d
 chain-join (step m a c) d = step m a (chain-join c d)
@@ -148,7 +148,7 @@ module _ (f : Bytes) where
         ),
       )
 
-  -- So are those of one with LF behind it.
+  -- So are those of one with LF after it.
   pub xieee64-within : Within (is-ident-char f) xieee64
   unfolding is-ident-char is-digit
   xieee64-within = (xinteger-within, (is-passes (is-ident-char f) (ch "L") refl, (is-passes (is-ident-char f) (ch "F") refl, tt)))
@@ -211,17 +211,17 @@ module _ (s f : Bytes) (i : ℕ) where
 
   -- ---- every end is reached
 
-  -- What is reached behind the longest integer is reached.
+  -- What is reached after the longest integer is reached.
   pub by-integer : (k : ℕ) → Reaches k (match-integer s i then plus (is-ident-char f) s) → Reaches k (match-bad-number s f i)
   unfolding match-bad-number
   by-integer k h = reaches-max _ 0 k h
 
-  -- What is reached behind a number up to its point is reached.
+  -- What is reached after a number up to its point is reached.
   pub by-point : (k : ℕ) → Reaches k (match-pointed s i then plus (is-ident-char f) s) → Reaches k (match-bad-number s f i)
   unfolding match-bad-number
   by-point k h = reaches-max _ 5 k h
 
-  -- What is reached behind one with an exponent of one digit is reached.
+  -- What is reached after one with an exponent of one digit is reached.
   pub by-exponent : (k : ℕ) → Reaches k (match-short s i then plus (is-ident-char f) s) → Reaches k (match-bad-number s f i)
   unfolding match-bad-number
   by-exponent k h = reaches-max _ 6 k h
@@ -230,12 +230,12 @@ module _ (s f : Bytes) (i : ℕ) where
   letters-run : (j k : ℕ) → At s (letters f) j k → Chain (Step s (is-ident-char f)) j k
   letters-run j k (m, a, c) = step m a c
 
-  -- They are found behind an end that is found.
+  -- They are found after an end that is found.
   found-reaches : {m : Match} (j k : ℕ) → m ≡ To j → Chain (Step s (is-ident-char f)) j k → j < k → Reaches k (m then plus (is-ident-char f) s)
   found-reaches j k q c h =
       subst (λ (m : Match). Reaches k (m then plus (is-ident-char f) s)) (sym q) (plus-right s (is-ident-char f) j .top k (run-some s (is-ident-char f) c h))
 
-  -- Behind a shortest part that has one end, digits are the first of those characters, so what they lead to is reached behind it.
+  -- After a shortest part that has one end, digits are the first of those characters, so what they lead to is reached after it.
   pub short-reaches : {m : Match} (r : Re) → Single (At s r i) → Right (At s r i) m → (j n k : ℕ) → At s r i j → Chain (Step s is-digit) j n
       → At s (letters f) n k → Reaches k (m then plus (is-ident-char f) s)
   short-reaches r one h j n k a c b =
@@ -250,8 +250,8 @@ module _ (s f : Bytes) (i : ℕ) where
   abbrev Reached : ℕ → Type 0
   Reached k = Reaches k (match-bad-number s f i) ⊎ Reaches k (two-digits s i)
 
-  -- Where a number has characters of identifiers alone and begins with an integer, what is behind the longest integer is found, and
-  -- where nothing is behind it, it reaches as far itself: then a digit stands behind its first.
+  -- Where a number has characters of identifiers alone and begins with an integer, what is after the longest integer is found, and
+  -- where nothing is after it, it reaches as far itself: then a digit stands after its first.
   pub run-found : (r : Re) → Within (is-ident-char f) r → nullable r ≡ false → (j m k : ℕ) → At s integer i j → At s r i m → At s (letters f) m k
       → Reaches k (match-integer s i then plus (is-ident-char f) s) ⊎ ((e : ℕ) × At s (seq (chr is-digit) integer) i e × (k ≤ e))
   run-found r w n j m k a x y =
@@ -286,7 +286,7 @@ module _ (s f : Bytes) (i : ℕ) where
       inl (by-exponent k (short-reaches (scientific (chr is-digit)) (short-single s i) (short-right s i) j m k (a, x, (n, y, (o, z, (p, w, t)))) c b))
   every-reached k (m, inr (inr (inr a)), b) = let z = zero-first (a .0) (a .1) in run-reached xieee64 (xieee64-within f) refl (z .0) m k (z .1) a b
 
-  -- Two digits or more are a number and a digit behind it.
+  -- Two digits or more are a number and a digit after it.
   two-fits : (e : ℕ) → At s (seq (chr is-digit) integer) i e → At s (bad-number f) i e
   two-fits e (j, a, x) =
       (j, inl (j, a, stop refl), run-some s (is-ident-char f) (at-run s (is-ident-char f) integer (integer-within f) j e x) (at-ahead s integer j e refl x))

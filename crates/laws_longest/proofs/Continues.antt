@@ -1,5 +1,5 @@
 -- Two laws that numbers need. A byte that is one of two letters, tested as the source does, is one of the list that the pattern has.
--- And where behind the lesser of two ends always stands a character of at-least-one class, something that begins with no such character follows
+-- And where after the lesser of two ends always stands a character of at-least-one class, something that begins with no such character follows
 -- the greatest end alone: a run is so, and what ends with a run. Rests on the shapes.
 use Prim.Native.Nat.{ℕ, _+_, _<_}
 use mathlib.Core.Path.{_≡_, refl, sym, ap₂, subst, _∙_, fun-ext}
@@ -56,7 +56,7 @@ pub none-listed : (l : List ℕ) (p : ℕ → Bool) → all-pass (λ c. not (p c
 none-listed l p h c t e = false≢true (sym (not-true _ (listed-passes (λ c. not (p c)) l h c t)) ∙ e)
 
 module _ (s : Bytes) where
-  -- A byte that is one of two letters of ASCII is found first, and then what a matcher finds behind it.
+  -- A byte that is one of two letters of ASCII is found first, and then what a matcher finds after it.
   pub right-two : {Q : ℕ → ℕ → Type 0} {m : Match} (a b : ℕ) → a < 0x80 → b < 0x80 → (i j : ℕ) → j ≡ i + 1 → Right (Q j) m
       → Right (Then (Step s (λ c. mem-cp c (a ∷ b ∷ [])) i) Q) (only (byte-has (two a b) s i) m)
   right-two {Q} {m} a b x y i j e h =
@@ -96,7 +96,7 @@ right-max {Q = Q} a b = right-later a (right-map (λ e. found e) (λ e q. inl q)
 
 -- ---- ends that can go on
 
--- Behind the lesser of two ends stands a character that passes a test.
+-- After the lesser of two ends stands a character that passes a test.
 abbrev pub Continues : Bytes → (ℕ → Bool) → (ℕ → Type 0) → Type 0
 Continues s p P = (j k : ℕ) → P j → P k → j < k → (n : ℕ) × Step s p j n
 
@@ -137,7 +137,7 @@ module _ (s : Bytes) (p : ℕ → Bool) where
         let y = at-first s q j e t (at-ahead s q j e full t) .1 in
         other (x .code) (x .passes) (step-same x y .1)
 
-    -- So it stands behind one end alone.
+    -- So it stands after one end alone.
     pub continues-parted : Parted P (At s q)
     continues-parted m n j k a b x y =
         by-order m n (λ h. absurd (at-greatest m n j a b h x)) (λ h. by-order n m (λ l. absurd (at-greatest n m k b a l y)) (λ l. omega arith))

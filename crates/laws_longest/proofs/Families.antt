@@ -1,4 +1,4 @@
--- The families of places that are one shape with other characters: names, operators behind a first character or a word, words behind
+-- The families of places that are one shape with other characters: names, operators after a first character or a word, words after
 -- a test, and tables of words. Rests on the shapes and on the choice among the words of a table.
 use Prim.Native.Nat.{ℕ, _+_, _<_}
 use Prim.Native.String.{String}
@@ -33,7 +33,7 @@ word-one-way (c ∷ cs) = word-one-way cs
 module _ (s : Bytes) where
   -- ---- a first part and a run
 
-  -- A character, and all behind it that pass another test, are found by `one` and `star`.
+  -- A character, and all after it that pass another test, are found by `one` and `star`.
   pub head-run : (p q : ℕ → Bool) (i : ℕ) → Right (Then (Step s p i) (Chain (Step s q))) (one p s i then λ j. To (star q s j))
   head-run p q i = right-then (step-single s) (one-right s p i) (λ j _. star-right s q j)
 
@@ -47,7 +47,7 @@ module _ (s : Bytes) where
   unfolding match-constructor
   constructor-right f i = head-run (is-constructor-start f) (is-ident-char f) i
 
-  -- One of some characters that operators have, and the symbols behind it, are the longest operator of its family.
+  -- One of some characters that operators have, and the symbols after it, are the longest operator of its family.
   pub operator-right : (chars : String) (i : ℕ) → all-pass is-op-char (codes chars) ≡ true
       → Right (At s (seq (one-of chars) symbols) i) (only (char-has is-op-char s i) (one-of-then-symbols s i chars))
   unfolding one-of-then-symbols
@@ -56,7 +56,7 @@ module _ (s : Bytes) where
 
   -- ---- words
 
-  -- A word is found first, and then what a matcher finds behind it.
+  -- A word is found first, and then what a matcher finds after it.
   pub word-then : {Q : ℕ → ℕ → Type 0} {f : ℕ → Match} (w : String) (i : ℕ) → all-plain (codes w) ≡ true
       → ((j : ℕ) → Right (Q j) (f j)) → Right (Then (At s (text w) i) Q) (match-lit s (cps w) i then f)
   word-then w i p h = right-then (at-single s (text w) i (word-one-way (codes w))) (text-right s w p i) (λ j _. h j)
@@ -68,7 +68,7 @@ module _ (s : Bytes) where
       subst (λ (t : Bool). Right (Then (At s (word (c ∷ [])) i) Q) (only t m)) (sym (has-byte s (small-is c small) i))
       (right-letter s c small i (i + 1) refl (λ _. h))
 
-  -- It holds with nothing behind the letter, too.
+  -- It holds with nothing after the letter, too.
   pub letter-right : (c i : ℕ) → c < 0x80 → Right (At s (word (c ∷ [])) i) (only (char-has (λ x. eqb x c) s i) (To (i + 1)))
   letter-right c i small = right-has s (small-is c small) i (i + 1) refl (λ _. right-here s)
 
@@ -99,7 +99,7 @@ module _ (s : Bytes) where
         (picks-table i k spelled {Q = λ x. At s (text x) i} (λ w. match-lit s w i) (λ x. at-forward s (text x) i) (λ x t. text-right s x t i) es h)
 
     module _ (q : Re) where
-      -- The same holds of one of the words with another expression behind it.
+      -- The same holds of one of the words with another expression after it.
       then-of : (es : List String) (e : ℕ) → One-of (λ x. At s (seq (text x) q) i e) es → At s (seq (one-word es) q) i e
       then-of [] e n = absurd n
       then-of (x ∷ es) e (inl (j, a, b)) = (j, inl a, b)
@@ -111,7 +111,7 @@ module _ (s : Bytes) where
       of-then (x ∷ es) e (j, inl a, b) = inl (j, a, b)
       of-then (x ∷ es) e (j, inr a, b) = inr (of-then es e (j, a, b))
 
-      -- The choice among the words of a table, each with a matcher behind it, is the longest that the expressions permit.
+      -- The choice among the words of a table, each with a matcher after it, is the longest that the expressions permit.
       pub table-then : (k : ℕ) (f : ℕ → Match) → ((j : ℕ) → Right (At s q j) (f j)) → (es : List String) → all-words spelled es ≡ true
           → Picks (At s (seq (one-word es) q) i) i k (try-words i k (λ w. match-lit s w i then f) 0 es (none-at i))
       table-then k f g es h =

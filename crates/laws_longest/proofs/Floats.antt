@@ -1,5 +1,5 @@
 -- Numbers with a point, with an exponent, and reals: what each matcher finds is the longest end of its pattern. The same of their
--- shortest parts, which stop behind the point or behind one digit of the exponent: such a part has one end. Rests on integers and on
+-- shortest parts, which stop after the point or after one digit of the exponent: such a part has one end. Rests on integers and on
 -- the laws of ends that can go on.
 use Prim.Native.Nat.{ℕ, _+_}
 use mathlib.Core.Path.{_≡_, refl, sym, subst}
@@ -32,7 +32,7 @@ use Rattle.laws_longest.proofs.Integers.{integer-right}
 abbrev pub fraction : Re
 fraction = seq (text ".") (many (chr is-digit))
 
--- The letter of an exponent and a sign, with what is behind them.
+-- The letter of an exponent and a sign, with what is after them.
 abbrev pub exponent : Re → Re
 exponent t = seq (one-of "eE") (seq (opt (one-of "+-")) t)
 
@@ -72,20 +72,20 @@ module _ (s : Bytes) where
   opt-join r q i e (inl b) = (i, inl refl, b)
   opt-join r q i e (inr (m, a, b)) = (m, inr a, b)
 
-  -- ---- digits and what is behind them
+  -- ---- digits and what is after them
 
   -- A run of digits goes on by digits.
   digits-continue : (i : ℕ) → Continues s is-digit (At s integer i)
   digits-continue i = run-continues s is-digit is-digit (λ c t. t) i
 
-  -- What begins with no digit is found behind the greatest end of an integer.
+  -- What begins with no digit is found after the greatest end of an integer.
   integer-then : (q : Re) → nullable q ≡ false → ((c : ℕ) → is-digit c ≡ true → starts q c ≡ true → ⊥) → {g : ℕ → Match} → ((j : ℕ) → Right (At s q j) (g j))
       → (i : ℕ) → Right (At s (seq integer q) i) (match-integer s i then g)
   integer-then q full other h i = continues-then s is-digit (digits-continue i) q full other (integer-right s i) h
 
   -- ---- a point
 
-  -- A point and the longest run of digits behind it are found.
+  -- A point and the longest run of digits after it are found.
   fraction-right : (j : ℕ) → Right (At s fraction j) (only (byte-is (ch ".") s j) (To (star is-digit s (j + 1))))
   fraction-right j = right-letter s (ch ".") (omega arith) j (j + 1) refl (λ _. star-right s is-digit (j + 1))
 
@@ -113,7 +113,7 @@ module _ (s : Bytes) where
 
   module _ (t : Re) (full : nullable t ≡ false) (unsigned : all-pass (λ c. not (starts t c)) (codes "+-") ≡ true) {g : ℕ → Match}
       (ends : (j : ℕ) → Right (At s t j) (g j)) where
-    -- A sign that may be left out is skipped, and what begins with no sign is found behind it.
+    -- A sign that may be left out is skipped, and what begins with no sign is found after it.
     sign-right : (k : ℕ) → Right (At s (seq (opt (one-of "+-")) t) k) (g (skip-sign s k))
     unfolding skip-sign
     sign-right k =
@@ -130,7 +130,7 @@ module _ (s : Bytes) where
     unfolding is-e
     exponent-right k = right-two s (ch "e") (ch "E") (omega arith) (omega arith) k (k + 1) refl (sign-right (k + 1))
 
-    -- It is found behind a run of digits.
+    -- It is found after a run of digits.
     digits-exponent : (j : ℕ) → Right (At s (seq (many (chr is-digit)) (exponent t)) j) (only (byte-has is-e s (star is-digit s j)) (g (skip-sign s (star is-digit s j + 1))))
     digits-exponent j = continues-then s is-digit (λ a b x y h. run-more s x y h) (exponent t) refl digit-or-letter (star-right s is-digit j) exponent-right
 
@@ -150,7 +150,7 @@ module _ (s : Bytes) where
         right-hand : (e : ℕ) → At s (seq fraction (exponent t)) j e → At s (seq (text ".") (seq (many (chr is-digit)) (exponent t))) j e
         right-hand e (n, (m, a, b), c) = (m, a, (n, b, c))
 
-  -- No digit begins what is behind an integer with an exponent.
+  -- No digit begins what is after an integer with an exponent.
   digit-or-exponent : (c : ℕ) → is-digit c ≡ true → eqb c (ch ".") || mem-cp c (codes "eE") ≡ true → ⊥
   digit-or-exponent c t e = either (eqb c (ch ".")) (mem-cp c (codes "eE")) (digit-or-point c t) (digit-or-letter c t) e
 

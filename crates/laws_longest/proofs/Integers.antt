@@ -1,5 +1,5 @@
 -- Integers, plain or with a letter for their base, alone or with a suffix: what each matcher finds is the longest end of its pattern.
--- Behind the lesser of two ends of an integer stands a hexadecimal digit, and no suffix begins with one. Rests on the shapes and on the
+-- After the lesser of two ends of an integer stands a hexadecimal digit, and no suffix begins with one. Rests on the shapes and on the
 -- laws of ends that can go on.
 use Prim.Native.Nat.{ℕ, _+_, _≤_}
 use Prim.Native.String.{String}
@@ -35,11 +35,11 @@ use Rattle.laws_longest.proofs.Continues.{two, two-listed, none-listed,
 abbrev pub based : String → (ℕ → Bool) → Re
 based letters p = seq (one-of letters) (at-least-one (chr p))
 
--- What stands behind the 0 of a binary integer.
+-- What stands after the 0 of a binary integer.
 abbrev pub binary : Re
 binary = based "bB" (λ c. mem-cp c (codes "01"))
 
--- What stands behind that of an octal or a binary one.
+-- What stands after that of an octal or a binary one.
 abbrev pub octal-or-binary : Re
 octal-or-binary = alt (based "oO" (between (ch "0") (ch "7"))) binary
 
@@ -107,13 +107,13 @@ module _ (s : Bytes) where
   unfolding any-integer-ends
   any-integer-right i = right-max (integer-right i) (xinteger-right i)
 
-  -- ---- what is behind them
+  -- ---- what is after them
 
-  -- Behind the lesser of two ends of an integer stands a hexadecimal digit.
+  -- After the lesser of two ends of an integer stands a hexadecimal digit.
   integer-continues : (i : ℕ) → Continues s is-hex (At s integer i)
   integer-continues i = run-continues s is-hex is-digit digit-hex i
 
-  -- The same holds of digits behind a letter.
+  -- The same holds of digits after a letter.
   based-continues : (letters : String) (q : ℕ → Bool) → ((c : ℕ) → q c ≡ true → is-hex c ≡ true) → (i : ℕ) → Continues s is-hex (At s (based letters q) i)
   based-continues letters q f i = then-continues s is-hex (single-parted (At s (at-least-one (chr q))) (step-single s)) (run-continues s is-hex q f)
 
@@ -128,11 +128,11 @@ module _ (s : Bytes) where
       (λ j k. apart s (based "oO" (between (ch "0") (ch "7"))) binary m j k refl refl (none-listed (codes "oO") (starts binary) refl)))
       (λ j k. apart s (based "xX" is-hex) octal-or-binary m j k refl refl (none-listed (codes "xX") (starts octal-or-binary) refl))
 
-  -- So what begins with no hexadecimal digit is found behind the greatest end of either kind.
-  behind-right : (q : Re) → nullable q ≡ false → ((c : ℕ) → is-hex c ≡ true → starts q c ≡ true → ⊥) → {g : ℕ → Match} → ((j : ℕ) → Right (At s q j) (g j))
+  -- So what begins with no hexadecimal digit is found after the greatest end of either kind.
+  after-right : (q : Re) → nullable q ≡ false → ((c : ℕ) → is-hex c ≡ true → starts q c ≡ true → ⊥) → {g : ℕ → Match} → ((j : ℕ) → Right (At s q j) (g j))
       → (i : ℕ) → Right (At s (seq any-integer q) i) (max-list (map (λ m. m then g) (any-integer-ends s i)))
   unfolding any-integer-ends
-  behind-right q full other h i =
+  after-right q full other h i =
       right-map apart-to together
       (right-max
       (continues-then s is-hex (integer-continues i) q full other (integer-right i) h)
@@ -149,11 +149,11 @@ module _ (s : Bytes) where
   -- `match-int-suffix` finds an integer with a suffix.
   pub suffix-right : (w : String) → suffix-like (codes w) ≡ true → (i : ℕ) → Right (At s (suffixed w) i) (match-int-suffix s i (cps w))
   unfolding match-int-suffix
-  suffix-right w h i = let k = suffix-is (codes w) h in behind-right (text w) (k .full) (k .other) (text-right s w (k .spelled)) i
+  suffix-right w h i = let k = suffix-is (codes w) h in after-right (text w) (k .full) (k .other) (text-right s w (k .spelled)) i
 
-  -- `match-int-usuffix` finds one with a suffix behind a u.
+  -- `match-int-usuffix` finds one with a suffix after a u.
   pub usuffix-right : (w : String) → all-plain (codes w) ≡ true → (i : ℕ) → Right (At s (usuffixed w) i) (match-int-usuffix s i (cps w))
   unfolding match-int-usuffix mem-cp is-hex is-digit
   usuffix-right w h i =
-      behind-right (seq (one-of "uU") (text w)) refl (λ c t e. none-listed (codes "uU") is-hex refl c e t)
+      after-right (seq (one-of "uU") (text w)) refl (λ c t e. none-listed (codes "uU") is-hex refl c e t)
       (λ j. right-two s (ch "u") (ch "U") (omega arith) (omega arith) j (j + 1) refl (text-right s w h (j + 1))) i

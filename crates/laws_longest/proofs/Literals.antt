@@ -94,7 +94,7 @@ module _ (s : Bytes) where
       single-then (at-single s (text "\\") i refl) (λ j.
       single-alt (step-single s) (single-alt (at-single s short j refl) (at-single s long j refl) (short-apart j)) (letter-apart j))
 
-  -- A hexadecimal digit at j is found first, and then what a matcher finds behind it.
+  -- A hexadecimal digit at j is found first, and then what a matcher finds after it.
   hex-then : {Q : ℕ → ℕ → Type 0} {m : Match} (j k : ℕ) → k ≡ j + 1 → Right (Q k) m → Right (Then (Step s is-hex j) Q) (only (byte-has is-hex s j) m)
   hex-then j k e h = right-byte s small-hex j k e (λ _. h)
 
@@ -107,7 +107,7 @@ module _ (s : Bytes) where
     abbrev hex : ℕ → Bool
     hex k = byte-has is-hex s (i + k)
 
-    -- A letter behind the backslash is found by its test.
+    -- A letter after the backslash is found by its test.
     letter-right : Right (Step s (λ c. mem-cp c letters) (i + 1)) (only (byte-has (λ c. mem-cp c letters) s (i + 1)) (To (i + 2)))
     letter-right =
         let e : i + 1 + 1 ≡ i + 2 = omega arith in
@@ -188,7 +188,7 @@ module _ (s : Bytes) where
       right-then (char-single (i + 1)) (char-right (i + 1)) λ j _.
       right-byte s (small-is (ch "'") (omega arith)) j (j + 1) refl λ _. right-here s
 
-  -- It finds the end of one with a B behind it, too.
+  -- It finds the end of one with a B after it, too.
   pub byte-lit-right : (i : ℕ) → Right (At s (seq (text "'") (seq any-char (text "'B"))) i) (match-char-lit s i true)
   unfolding match-char-lit
   byte-lit-right i =

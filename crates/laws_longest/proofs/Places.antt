@@ -158,7 +158,7 @@ module _ (s f : Bytes) (i : ℕ) where
   abbrev is : Letter → ℕ → Bool
   is x c = eqb c (ch x)
 
-  -- It holds of a word behind a test for its first character.
+  -- It holds of a word after a test for its first character.
   word-place : (x : Letter) (w : String) {k : ℕ} → all-plain (codes w) ≡ true → nullable (text w) ≡ false → ((c : ℕ) → starts (text w) c ≡ true → is x c ≡ true)
       → Picks (At s (text w) i) i k (found i k 0 (only (char-has (is x) s i) (match-lit s (cps w) i)))
   word-place x w p n g = tested (is x) (text w) n g (text-right s w p i)
@@ -168,7 +168,7 @@ module _ (s f : Bytes) (i : ℕ) where
       → Picks (At s (seq (one-of chars) symbols) i) i k (found i k 0 (only (char-has is-op-char s i) (one-of-then-symbols s i chars)))
   operator-place chars h = simple (seq (one-of chars) symbols) (operator-right s chars i h)
 
-  -- A word and the symbols behind it are the longest operator that begins with it.
+  -- A word and the symbols after it are the longest operator that begins with it.
   word-symbols : (w : String) → all-plain (codes w) ≡ true → Right (At s (seq (text w) symbols) i) (lit-then-symbols s i w)
   unfolding lit-then-symbols
   word-symbols w p = word-then s w i p (star-right s is-symbolchar)
@@ -231,7 +231,7 @@ module _ (s f : Bytes) (i : ℕ) where
         → Picks (At s (suffixed w) i) i k (found i k 0 (only (char-has is-digit s i) (match-int-suffix s i (cps w))))
     suffix-place w h = tested is-digit (suffixed w) refl digit-or-zero (n .suffix w h)
 
-    -- So is one with a suffix behind a u.
+    -- So is one with a suffix after a u.
     usuffix-place : (w : String) {k : ℕ} → all-plain (codes w) ≡ true
         → Picks (At s (usuffixed w) i) i k (found i k 0 (only (char-has is-digit s i) (match-int-usuffix s i (cps w))))
     usuffix-place w h = tested is-digit (usuffixed w) refl digit-or-zero (n .usuffix w h)

@@ -53,7 +53,7 @@ plain-scalars (c ∷ cs) p =
 -- ---- bytes of ASCII
 
 module _ (s : Bytes) where
-  -- What the bytes from i on begin with is the byte at i, and what follows it is behind it.
+  -- What the bytes from i on begin with is the byte at i, and what follows it is after it.
   first-byte : (i b : ℕ) (l : Bytes) → drop i s ≡ b ∷ l → (i < length s) × (getD s i 0 ≡ b) × (drop (i + 1) s ≡ l)
   first-byte i b l h = (
     omega (arith, length-drop i s, ap length h),
@@ -126,13 +126,13 @@ module _ (s : Bytes) where
   pub step-single : {p : ℕ → Bool} {i : ℕ} → Single (Step s p i)
   step-single j k a b = step-same a b .0
 
-  -- ---- a byte of ASCII and what is behind it
+  -- ---- a byte of ASCII and what is after it
 
   -- Where nothing more is asked the end is here.
   pub right-here : {j : ℕ} → Right (λ e. j ≡ e) (To j)
   right-here = right-to refl (λ k h. omega arith)
 
-  -- A byte that passes a test for ASCII is found first, and then what a matcher finds behind it.
+  -- A byte that passes a test for ASCII is found first, and then what a matcher finds after it.
   pub right-byte : {p : ℕ → Bool} {Q : ℕ → ℕ → Type 0} {m : Match} → Small p → (i j : ℕ) → j ≡ i + 1 → (byte-has p s i ≡ true → Right (Q j) m)
       → Right (Then (Step s p i) Q) (only (byte-has p s i) m)
   right-byte {p} small i j e h =
@@ -169,10 +169,10 @@ module _ (s : Bytes) where
   lit-found [] i e q = let z : i ≡ e = cc in (ap (λ (k : ℕ). drop k s) z, sym z ∙ sym (add-zero i))
   lit-found (b ∷ l) i e q =
       by-test (λ (m : Match). m ≡ To e → (drop i s ≡ b ∷ l ++ drop e s) × (e ≡ i + length (b ∷ l))) (byte-is b s i)
-      (λ t r. behind t (lit-found l (i + 1) e r)) (λ _ r. some-end r) q
+      (λ t r. after-byte t (lit-found l (i + 1) e r)) (λ _ r. some-end r) q
     where
-      behind : byte-is b s i ≡ true → (drop (i + 1) s ≡ l ++ drop e s) × (e ≡ i + 1 + length l) → (drop i s ≡ b ∷ l ++ drop e s) × (e ≡ i + length (b ∷ l))
-      behind t r =
+      after-byte : byte-is b s i ≡ true → (drop (i + 1) s ≡ l ++ drop e s) × (e ≡ i + 1 + length l) → (drop i s ≡ b ∷ l ++ drop e s) × (e ≡ i + length (b ∷ l))
+      after-byte t r =
           let h = byte-passes (λ x. eqb x b) s i t in
           let z : getD s i 0 ≡ b = eqb-true _ _ (h .1) in
           let d : drop (suc i) s ≡ l ++ drop e s = rw (← add-one i) (r .0) in

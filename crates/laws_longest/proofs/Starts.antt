@@ -140,8 +140,8 @@ module _ (s : Bytes) where
   first-seq r q = step-map (λ c t. by-test (λ (b : Bool). b ≡ true) (nullable r) (λ _. left (starts r c) (starts q c) t) (λ _. t))
 
   -- So is one of the second part, where the first may be empty.
-  first-behind : (r q : Re) {i k : ℕ} → nullable r ≡ true → Step s (starts q) i k → Step s (starts (seq r q)) i k
-  first-behind r q e = step-map (λ c t. by-test (λ (b : Bool). b ≡ true) (nullable r) (λ _. right (starts r c) (starts q c) t) (λ n. absurd (false≢true (sym n ∙ e))))
+  first-after : (r q : Re) {i k : ℕ} → nullable r ≡ true → Step s (starts q) i k → Step s (starts (seq r q)) i k
+  first-after r q e = step-map (λ c t. by-test (λ (b : Bool). b ≡ true) (nullable r) (λ _. right (starts r c) (starts q c) t) (λ n. absurd (false≢true (sym n ∙ e))))
 
   -- A chain that moves on has the first character of its first step that does.
   chain-first : {P : ℕ → ℕ → Type 0} {X : ℕ → Type 0} → ((i e : ℕ) → P i e → i < e → X i) → ((i e : ℕ) → P i e → i ≤ e) → {i e : ℕ} → Chain P i e → i < e → X i
@@ -161,7 +161,7 @@ module _ (s : Bytes) where
       go f g true n =
           by-order i m (λ h. let x = f h in (x .0, first-seq r q (x .1)))
           (λ h. let same : m ≡ i = omega (arith, at-forward r i m a) in
-          let x = g (subst (λ (k : ℕ). At s q k e) same b) in (x .0, first-behind r q n (x .1)))
+          let x = g (subst (λ (k : ℕ). At s q k e) same b) in (x .0, first-after r q n (x .1)))
   at-first (alt r q) i e (inl h) l = let x = at-first r i e h l in (x .0, step-map (λ c. left (starts r c) (starts q c)) (x .1))
   at-first (alt r q) i e (inr h) l = let x = at-first q i e h l in (x .0, step-map (λ c. right (starts r c) (starts q c)) (x .1))
   at-first (many r) i e h l = chain-first {X = First r} (at-first r) (at-forward r) h l

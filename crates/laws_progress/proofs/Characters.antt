@@ -27,7 +27,7 @@ tail-of b e =
     let h = both (leb 0x80 b) (leb b 0xBF) e in
     record { least = leb-true 0x80 b (h .0); most = omega (arith, leb-true b 0xBF (h .1)) }
 
--- the bytes of the character at i: there are some, they are the text's, those behind the first only continue it, and ASCII is one
+-- the bytes of the character at i: there are some, they are the text's, those after the first only continue it, and ASCII is one
 pub record Spelled (s : Bytes) (i c w : ℕ) : Type 0 where
   pub some : 1 ≤ w
   pub within : i + w ≤ length s

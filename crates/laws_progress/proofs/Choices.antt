@@ -1,4 +1,4 @@
--- What `select` chooses ends within the text and on a character, and behind its start unless it is none of the places.
+-- What `select` chooses ends within the text and on a character, and after its start unless it is none of the places.
 -- Rests on the laws of the matchers and of words.
 use Prim.Native.Nat.{ℕ, suc, _+_, _<_}
 use Prim.Native.Char.{Char as Letter}
@@ -25,7 +25,7 @@ use Rattle.laws_progress.proofs.Matches.{
   small-is,
   one-ends,
   then-star,
-  behind,
+  after-walk,
   plus-ends,
   newline-ends,
   ident-ends,
@@ -120,12 +120,12 @@ module _ (s : Bytes) (i : ℕ) where
   is-onward : (x : Letter) → ch x < 0x80 → char-has (λ c. eqb c (ch x)) s i ≡ true → Onward s i (i + 1)
   is-onward x h t = char-onward-one (λ c. eqb c (ch x)) s i (small-is (ch x) h) t
 
-  -- symbol characters behind one of some characters, or behind a word
+  -- symbol characters after one of some characters, or after a word
   one-of-ends : (chars : String) → Ends (Onward s i) (one-of-then-symbols s i chars)
   unfolding one-of-then-symbols
   one-of-ends chars = then-star s is-symbolchar (one-ends s (λ c. mem-cp c (codes chars)) i)
 
-  -- the same behind a word
+  -- the same after a word
   lit-symbols-ends : (w : String) → begins-with (λ c. true) (codes w) ≡ true → Ends (Onward s i) (lit-then-symbols s i w)
   unfolding lit-then-symbols
   lit-symbols-ends w b = then-star s is-symbolchar (word-onward s w b i)
@@ -149,8 +149,8 @@ module _ (s : Bytes) (i : ℕ) where
         λ k chars q. when-fits k op-char q (λ _. one-of-ends chars)
         in
         table-fits 1 refl (words-of early-literals) refl
-        ⨾ when-fits 2 (is "`") refl (λ _. ends-then (word-onward s "```" refl i) (λ j o. behind s (o .walk) (ident-ends s f j)))
-        ⨾ when-fits 3 (is "#") refl (λ _. ends-then (word-onward s "#lang-" refl i) (λ j o. behind s (o .walk) (ident-ends s f j)))
+        ⨾ when-fits 2 (is "`") refl (λ _. ends-then (word-onward s "```" refl i) (λ j o. after-walk s (o .walk) (ident-ends s f j)))
+        ⨾ when-fits 3 (is "#") refl (λ _. ends-then (word-onward s "#lang-" refl i) (λ j o. after-walk s (o .walk) (ident-ends s f j)))
         ⨾ word-fits 4 (is "_") "__SOURCE_FILE__" refl refl
         ⨾ word-fits 5 (is "_") "__LINE__" refl refl
         ⨾ word-fits 6 (is "_") "__FILELINE__" refl refl
@@ -210,6 +210,6 @@ module _ (s : Bytes) (i : ℕ) where
         (λ _. place-fits 8 refl (newline-ends s i))
         (λ _. all-fit places-fit none-fits))
 
-    -- where the text is clean it is so behind the choice, where a comment and a blob begin
+    -- where the text is clean it is so after the choice, where a comment and a blob begin
     pub choice-clean : Clean s i → eqb (select s f i .place) 0 ≡ false → Clean s (select s f i .end)
     choice-clean c t = clean-walk (select-fits .chosen t .onward .walk) c

@@ -1,4 +1,4 @@
--- Each matcher's end is behind its start, within the text, and on a character again. Rests on the laws of walks and on
+-- Each matcher's end is after its start, within the text, and on a character again. Rests on the laws of walks and on
 -- those of matchers put together.
 use Prim.Native.Nat.{ℕ, _+_, _-_, _<_}
 use Prim.Native.Char.{Char as Letter}
@@ -123,7 +123,7 @@ module _ (s : Bytes) where
   pub byte-is-onward : (x i : ℕ) → x < 0x80 → byte-is x s i ≡ true → Onward s i (i + 1)
   byte-is-onward x i h e = byte-onward (λ b. eqb b x) s i (small-is x h) e
 
-  -- one more byte of ASCII behind the k bytes from i on
+  -- one more byte of ASCII after the k bytes from i on
   pub byte-more : {p : ℕ → Bool} → Small p → (i k n : ℕ) → n ≡ k + 1 → Onward s i (i + k) → byte-has p s (i + k) ≡ true → Onward s i (i + n)
   byte-more {p} small i k n q o e =
       let r : i + k + 1 ≡ i + n = omega arith in
@@ -133,9 +133,9 @@ module _ (s : Bytes) where
   pub then-star : (p : ℕ → Bool) {i : ℕ} {m : Match} → Ends (Onward s i) m → Ends (Onward s i) (m then λ j. To (star p s j))
   then-star p h = ends-then h (λ j o. ends-to (onward-walk o (star-walks p s j)))
 
-  -- what is found behind a walk is found from its start
-  pub behind : {i j : ℕ} {m : Match} → Walk s i j → Ends (Onward s j) m → Ends (Onward s i) m
-  behind u h = ends-map (λ e o. walk-onward u o) h
+  -- what is found after a walk is found from its start
+  pub after-walk : {i j : ℕ} {m : Match} → Walk s i j → Ends (Onward s j) m → Ends (Onward s i) m
+  after-walk u h = ends-map (λ e o. walk-onward u o) h
 
   -- ---- the source's matchers
 
@@ -173,7 +173,7 @@ module _ (s : Bytes) where
       (ends-if _ (λ h. ends-to (let u = both _ _ h in let v = both _ _ (u .1) in let w = both _ _ (v .1) in
       hexes 4 (hex 3 (hex 2 (more "u" (omega arith) o (u .0)) (v .0)) (w .0)) (w .1))) ends-nothing))
     where
-      -- the letter behind the backslash
+      -- the letter after the backslash
       more : (x : Letter) → ch x < 0x80 → Onward s i (i + 1) → byte-is (ch x) s (i + 1) ≡ true → Onward s i (i + 2)
       more x h o e = byte-more (small-is (ch x) h) i 1 2 refl o e
 
@@ -200,7 +200,7 @@ module _ (s : Bytes) where
   unfolding match-char-lit
   char-lit-ends i with-b =
       ends-only (byte-is (ch "'") s i) λ t.
-      ends-then (behind (byte-is-onward (ch "'") i (omega arith) t .walk) (char-ends (i + 1))) λ j o.
+      ends-then (after-walk (byte-is-onward (ch "'") i (omega arith) t .walk) (char-ends (i + 1))) λ j o.
       ends-only (byte-is (ch "'") s j) λ h.
       let q = byte-is-onward (ch "'") j (omega arith) h in
       ends-if with-b
@@ -225,7 +225,7 @@ module _ (s : Bytes) where
     where
       based : (p : ℕ → Bool) (a b : ℕ) → a < 0x80 → b < 0x80 → Onward s i (i + 1) → byte-has (λ c. eqb c a || eqb c b) s (i + 1) ≡ true
           → Ends (Onward s i) (plus p s (i + 2))
-      based p a b h k o e = behind (byte-more (small-or (small-is a h) (small-is b k)) i 1 2 refl o e .walk) (plus-ends p (i + 2))
+      based p a b h k o e = after-walk (byte-more (small-or (small-is a h) (small-is b k)) i 1 2 refl o e .walk) (plus-ends p (i + 2))
 
   -- a number in any base
   any-integer-each : (i : ℕ) → Each (Ends (Onward s i)) (any-integer-ends s i)
@@ -245,14 +245,14 @@ module _ (s : Bytes) where
   unfolding match-int-suffix
   int-suffix-ends i w l = ends-max (each-map _ (λ m h. ends-then h (λ j o. ends-map (λ e u. onward-walk o u) (l j))) (any-integer-each i))
 
-  -- a number with a suffix behind a u
+  -- a number with a suffix after a u
   pub int-usuffix-ends : (i : ℕ) (w : Bytes) → Lettered w → Ends (Onward s i) (match-int-usuffix s i w)
   unfolding match-int-usuffix
   int-usuffix-ends i w l = ends-max (each-map _ (λ m h. ends-then h λ j o. ends-only _ λ t.
       let u = onward-onward o (byte-onward _ s j (small-or (small-is (ch "u") (omega arith)) (small-is (ch "U") (omega arith))) t) in
       ends-map (λ e v. onward-walk u v) (l (j + 1))) (any-integer-each i))
 
-  -- the offset behind an optional sign
+  -- the offset after an optional sign
   sign-walks : (k : ℕ) → Walk s k (skip-sign s k)
   unfolding skip-sign
   sign-walks k = by-if (Walk s k) _ (λ t. byte-onward _ s k (small-or (small-is (ch "+") (omega arith)) (small-is (ch "-") (omega arith))) t .walk) (λ _. here refl)
@@ -262,7 +262,7 @@ module _ (s : Bytes) where
   unfolding is-e
   small-e = small-or (small-is (ch "e") (omega arith)) (small-is (ch "E") (omega arith))
 
-  -- the offset behind the letter of an exponent and its sign
+  -- the offset after the letter of an exponent and its sign
   exponent-walks : (k : ℕ) → byte-has is-e s k ≡ true → Onward s k (skip-sign s (k + 1))
   exponent-walks k t = onward-walk (byte-onward is-e s k small-e t) (sign-walks (k + 1))
 
@@ -280,7 +280,7 @@ module _ (s : Bytes) where
       exp (onward-walk (onward-onward o (byte-is-onward (ch ".") j (omega arith) t)) (star-walks is-digit s (j + 1)) .walk))
     where
       exp : {k : ℕ} → Walk s i k → Ends (Onward s i) (only (byte-has is-e s k) (match-integer s (skip-sign s (k + 1))))
-      exp {k} u = ends-only (byte-has is-e s k) λ t. behind (walk-walk u (exponent-walks k t .walk)) (integer-ends (skip-sign s (k + 1)))
+      exp {k} u = ends-only (byte-has is-e s k) λ t. after-walk (walk-walk u (exponent-walks k t .walk)) (integer-ends (skip-sign s (k + 1)))
 
   -- a real number
   pub real-ends : (i : ℕ) → Ends (Onward s i) (match-real s i)
@@ -292,7 +292,7 @@ module _ (s : Bytes) where
   pub bad-number-ends : (f : Bytes) (i : ℕ) → Lettered (cps "LF") → Ends (Onward s i) (match-bad-number s f i)
   unfolding match-bad-number
   bad-number-ends f i l =
-      ends-max (each-map {P = Ends (Onward s i)} _ (λ m h. ends-then h (λ j o. behind (o .walk) (plus-ends (is-ident-char f) j)))
+      ends-max (each-map {P = Ends (Onward s i)} _ (λ m h. ends-then h (λ j o. after-walk (o .walk) (plus-ends (is-ident-char f) j)))
       (integer-ends i ⨾ xinteger-ends i ⨾ floatp-ends i ⨾ floate-ends i
       ⨾ ends-then (xinteger-ends i) (λ j o. ends-map (λ e u. onward-walk o u) (l j))
       ⨾ dot
@@ -312,14 +312,14 @@ module _ (s : Bytes) where
   abbrev two-ticks : ℕ → Bool
   two-ticks j = byte-is (ch "`") s j && byte-is (ch "`") s (j + 1)
 
-  -- a turn moves on, or finds an end behind what it stands at
+  -- a turn moves on, or finds an end after what it stands at
   pub backtick-leads : (j n : ℕ) → Leads (λ b. Onward s j (b .0)) (Ends (Onward s j)) (backtick-turn s (j, n))
   backtick-leads j n =
       let ok : ℕ → Bool = λ c. not (eqb c (ch "`")) && not (is-newline-char c) in
       let L : Turn (ℕ × ℕ) Match → Type 0 = Leads (λ b. Onward s j (b .0)) (Ends (Onward s j)) in
       by-match L (one ok s j) (λ k q. one-ends ok j .at q) λ _.
       by-match L (only (byte-is (ch "`") s j) (one ok s (j + 1)))
-      (λ k q. ends-only (byte-is (ch "`") s j) (λ t. behind (byte-is-onward (ch "`") j (omega arith) t .walk) (one-ends ok (j + 1))) .at q) λ _.
+      (λ k q. ends-only (byte-is (ch "`") s j) (λ t. after-walk (byte-is-onward (ch "`") j (omega arith) t .walk) (one-ends ok (j + 1))) .at q) λ _.
       ends-only (ltb 0 n && two-ticks j) λ t.
       let h = both _ _ (both (ltb 0 n) (two-ticks j) t .1) in
       ends-to (byte-more (small-is (ch "`") (omega arith)) j 1 2 refl (byte-is-onward (ch "`") j (omega arith) (h .0)) (h .1))

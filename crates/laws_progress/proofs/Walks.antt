@@ -41,7 +41,7 @@ module _ {s : Bytes} {i j e : ℕ} where
     walk = walk-walk (o .walk) v;
   }
 
-  -- moving on behind a walk
+  -- moving on after a walk
   pub walk-onward : Walk s i j → Onward s j e → Onward s i e
   walk-onward u o = record { past = omega (arith, walk-forward u); within = o .within; walk = walk-walk u (o .walk) }
 
@@ -114,7 +114,7 @@ walk-rest {s} {i} {j} {n} (on c w p u) (on d x q v) h =
     let z : x ≡ w = cc in
     walk-rest u (subst (λ k. Walk s (i + k) n) z v) h
 
--- a clean text stays clean behind a walk
+-- a clean text stays clean after a walk
 pub clean-walk : {s : Bytes} {i j : ℕ} → Walk s i j → Clean s i → Clean s j
 clean-walk {s} {i} u c = walk-rest u c (walk-within u (walk-forward c))
 

@@ -47,7 +47,7 @@ payloads-append [] us = refl
 payloads-append (t ∷ ts) us =
     ap (λ (l : Bytes). t .payload ++ l) (payloads-append ts us) ∙ sym (append-assoc (t .payload) (payloads-of ts) (payloads-of us))
 
--- records: the others begin behind the first payloads
+-- records: the others begin after the first payloads
 pub records-append : (used : ℕ) (ts us : List Step) → records-of used (ts ++ us) ≡ records-of used ts ++ records-of (used + length (payloads-of ts)) us
 unfolding records-of payloads-of
 records-append used [] us = ap (λ (n : ℕ). records-of n us) (sym (add-zero used))
@@ -78,7 +78,7 @@ over-part a b c l =
     ∙ ap (take (length b)) (drop-append-seam a ((b ++ c) ++ z) ∙ append-assoc b c z)
     ∙ take-append-seam b (c ++ z)
 
--- what is behind
+-- what is after
 pub over-rest : (vs l : List ℕ) → drop (length vs) (over vs l) ≡ drop (length vs) l
 unfolding over
 over-rest vs l = drop-append-seam vs (drop (length vs) l)
@@ -130,8 +130,8 @@ items-found used (t ∷ ts) rs z ps y (m ⨾ ms) q e =
     let e′ : drop used ps ≡ t .payload ++ (payloads-of ts ++ y) = e ∙ append-assoc (t .payload) (payloads-of ts) y in
     let first : take record-size rs ≡ w = ap (take record-size) q′ ∙ take-at w (records-of n ts ++ z) record-size (words-size (t .item) used) in
     let others : drop record-size rs ≡ records-of n ts ++ z = ap (drop record-size) q′ ∙ drop-at w (records-of n ts ++ z) record-size (words-size (t .item) used) in
-    let behind : drop n ps ≡ payloads-of ts ++ y =
+    let later : drop n ps ≡ payloads-of ts ++ y =
     sym (drop-drop (length (t .payload)) used ps) ∙ ap (drop (length (t .payload))) e′ ∙ drop-append-seam (t .payload) (payloads-of ts ++ y)
     in
     ap₂ (λ (x : Told) (l : List Told). x ∷ l) (ap (item-in ps) first ∙ item-found t used ps (payloads-of ts ++ y) m e′)
-    (items-found n ts (drop record-size rs) z ps y ms others behind)
+    (items-found n ts (drop record-size rs) z ps y ms others later)

@@ -82,7 +82,7 @@ module _ (s name f : Bytes) where
       ∙ steps-on (left s st) st m
       ∙ ap (λ (ts : List Step). step s name f st ∷ ts) (steps-same (left s st) _ b (l .0) (l .1) (omega (arith, awake-small (b .mode))))
 
-  -- Behind some steps the others are those of the state that they end in.
+  -- After some steps the others are those of the state that they end in.
   pub steps-then : (st : State) (ts : List Step) (b : State) → Opened st → Steps s name f st ts b → steps-of s name f st ≡ ts ++ steps-of s name f b
   steps-then st [] b o e = ap (steps-of s name f) e
   steps-then st (t ∷ ts) b o (m, e, rest) =

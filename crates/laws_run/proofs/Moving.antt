@@ -1,4 +1,4 @@
--- What each change that reading makes to a state keeps of its soundness. Rests on the laws of walks: behind a walk by whole
+-- What each change that reading makes to a state keeps of its soundness. Rests on the laws of walks: after a walk by whole
 -- characters a character stands, or the text's end.
 use Prim.Native.Nat.{ℕ, _+_, _≤_, _<_}
 use mathlib.Core.Path.{_≡_, refl, sym, subst, _∙_}

@@ -14,7 +14,7 @@ use Rattle.definition.specs.Basics.{Bytes, ch, same}
 use Rattle.definition.specs.Utf8.{encode-all}
 use Rattle.definition.specs.Text.{lexeme}
 use Rattle.definition.specs.Tables.{Entry, cps, find, entry}
-use Rattle.definition.specs.Numbers.{strips, strip-left, behind, strip-right, clean-number, show}
+use Rattle.definition.specs.Numbers.{strips, strip-left, strip-if-last, strip-right, clean-number, show}
 use Rattle.definition.specs.Trim.{onto-first, split-lines, join-lines, trim-width, maybe-trim-lines}
 use Rattle.lemmas.proofs.Cases.{by-test, by-if, by-order, both}
 use Rattle.number_value.proofs.Digits.{show-last, show-more}
@@ -63,16 +63,16 @@ left-size [] = omega arith
 left-size (b ∷ l) = by-test (λ (m : Bytes). length m ≤ suc (length l)) (strips b) (λ _. omega (arith, left-size l)) (λ _. omega arith)
 
 -- a byte in front of the rest
-behind-size : (b : ℕ) (l : Bytes) → length (behind b l) ≤ suc (length l)
-unfolding behind
-behind-size b [] = by-if (λ (m : Bytes). length m ≤ 1) (strips b) (λ _. omega arith) (λ _. omega arith)
-behind-size b (x ∷ l) = omega arith
+strip-if-last-size : (b : ℕ) (l : Bytes) → length (strip-if-last b l) ≤ suc (length l)
+unfolding strip-if-last
+strip-if-last-size b [] = by-if (λ (m : Bytes). length m ≤ 1) (strips b) (λ _. omega arith) (λ _. omega arith)
+strip-if-last-size b (x ∷ l) = omega arith
 
 -- from the right
 right-size : (l : Bytes) → length (strip-right l) ≤ length l
 unfolding strip-right
 right-size [] = omega arith
-right-size (b ∷ l) = omega (arith, behind-size b (strip-right l), right-size l)
+right-size (b ∷ l) = omega (arith, strip-if-last-size b (strip-right l), right-size l)
 
 -- both
 pub clean-size : (l : Bytes) → length (clean-number l) ≤ length l

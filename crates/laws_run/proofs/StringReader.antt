@@ -32,7 +32,7 @@ use Rattle.laws_progress.proofs.Characters.{char-at}
 use Rattle.state.specs.Sound.{Stands}
 use Rattle.laws_progress.proofs.Walks.{rest, Onward, onward-walk, walk-past, char-onward, star-walks, Clean, clean-walk, clean-char, Passes}
 use Rattle.laws_progress.proofs.Ends.{Ends, ends-only}
-use Rattle.laws_progress.proofs.Matches.{small-is, behind, byte-is-onward, newline-ends, escape-ends}
+use Rattle.laws_progress.proofs.Matches.{small-is, after-walk, byte-is-onward, newline-ends, escape-ends}
 use Rattle.laws_progress.proofs.Scans.{star-onward}
 use Rattle.laws_run.specs.Going.{string-from}
 use Rattle.laws_run.proofs.Moving.{walk-stands, ended-stands}
@@ -130,7 +130,7 @@ module _ (s : Bytes) where
 
         -- a backslash and a newline
         broken : Ends (Onward s i) (only (byte-is (ch "\\") s i) (match-newline s (i + 1)))
-        broken = ends-only (byte-is (ch "\\") s i) (λ t. behind s (byte-is-onward s (ch "\\") i (omega arith) t .walk) (newline-ends s (i + 1)))
+        broken = ends-only (byte-is (ch "\\") s i) (λ t. after-walk s (byte-is-onward s (ch "\\") i (omega arith) t .walk) (newline-ends s (i + 1)))
 
         -- a character is at most 4 bytes
         escaped : (e : ℕ) → Onward s i e → Grows a (advance st e, acc ++ encode (unescape s i))

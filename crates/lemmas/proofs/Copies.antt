@@ -9,7 +9,7 @@ use lib.Seq.{take-all}
 use Rattle.lemmas.specs.Over.{over}
 use Rattle.lemmas.proofs.Over.{length-over}
 
--- One element more behind those written.
+-- One element more after those written.
 pub write-on : (vs l : List ℕ) (x : ℕ) → length vs < length l → set (over vs l) (length vs) x ≡ over (vs ++ (x ∷ [])) l
 unfolding over
 write-on [] [] x h = absurd (not-suc-le-zero h)

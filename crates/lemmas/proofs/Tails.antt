@@ -1,4 +1,4 @@
--- Tails of a buffer that are lent and written over, and what is written behind what was written before. Rests on the laws of
+-- Tails of a buffer that are lent and written over, and what is written after what was written before. Rests on the laws of
 -- buffers that are written over.
 use Prim.Native.Nat.{ℕ, _+_, _-_, _≤_}
 use mathlib.Core.Path.{_≡_, sym, ap, ap₂, _∙_}
@@ -22,7 +22,7 @@ tail-back l at vs =
     let e : length (drop at l) ≤ length l - at = simp length-drop (le-refl (length l - at)) in
     simp (take-all (length l - at) (drop at l) e, drop-of-length-le (drop at l) e, append-nil, drop-drop)
 
--- Written behind what was written before.
+-- Written after what was written before.
 pub write-more : (vs ws l : List ℕ) → put (over vs l) (length vs) ws ≡ over (vs ++ ws) l
 unfolding put over
 write-more vs ws l =
@@ -34,10 +34,10 @@ write-more vs ws l =
 pub lent : (l tail vs : List ℕ) (at : ℕ) → tail ≡ over vs (midOf at (length l - at) l) → putMid at (length l - at) l tail ≡ put l at vs
 lent l tail vs at e = rw e (tail-back l at vs)
 
--- The tail behind what was written before.
-pub behind : (l now tail a b : List ℕ) (at : ℕ) → now ≡ over a l → at ≡ length a → tail ≡ over b (midOf at (length now - at) now)
+-- The tail after what was written before.
+pub written-after : (l now tail a b : List ℕ) (at : ℕ) → now ≡ over a l → at ≡ length a → tail ≡ over b (midOf at (length now - at) now)
     → putMid at (length now - at) now tail ≡ over (a ++ b) l
-behind l now tail a b at m n e = lent now tail b at e ∙ rw (m, n) (write-more a b l)
+written-after l now tail a b at m n e = lent now tail b at e ∙ rw (m, n) (write-more a b l)
 
 -- The buffer keeps its length.
 pub length-put : (l : List ℕ) (at : ℕ) (vs : List ℕ) → at + length vs ≤ length l → length (put l at vs) ≡ length l

@@ -24,7 +24,7 @@ pub record Refused (st : State) (rs : List ℕ) (ps : Bytes) (o : Outcome) : Typ
   pub payload : o .2 ≡ ps
 
 -- the second: number 0; the items are steps of the definition one after another, as many as the count says; the buffers hold their records
--- and payloads from the front on, each whole, and behind them what they held; the state handed back is the one after the last of them; and
+-- and payloads from the front on, each whole, and after them what they held; the state handed back is the one after the last of them; and
 -- the stop says why there are no more. These are the fields of `Done` (crates/laws_run/specs/Written.antt).
 -- "Every run ends", since a function that is proved ends. "No public operation has a `requires`": see src/lib.rt.
 abbrev pub RefusedOrCounted : Bytes → Bytes → Bytes → State → List ℕ → Bytes → Outcome → Type 0

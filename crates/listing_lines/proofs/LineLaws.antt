@@ -21,7 +21,7 @@ use Rattle.lemmas.specs.Over.{over, Wrote}
 use Rattle.lemmas.proofs.Cases.{by-order, both}
 use Rattle.lemmas.proofs.Over.{length-over, stored}
 use Rattle.lemmas.proofs.Copies.{write-on}
-use Rattle.lemmas.proofs.Tails.{behind}
+use Rattle.lemmas.proofs.Tails.{written-after}
 use Rattle.number_value.proofs.Digits.{show-last, show-more}
 use Rattle.listing_lines.specs.Line.{letter, names, name-of, shown, numbers, head, line, lines}
 use Rattle.listing_lines.specs.Writing.{line-most}
@@ -82,13 +82,13 @@ pub name-missing : (kind : ℕ) → 174 ≤ kind → getD names 0 [] ≡ name-of
 unfolding name-of names kind-names
 name-missing kind h = sym (getD-past names kind (cps "-") h)
 
--- ---- one piece behind another
+-- ---- one piece after another
 
 pub wrote-more : {a b l now tail : List ℕ} {at n : ℕ} → Wrote a l now at → Wrote b (midOf at (length now - at) now) tail n
     → Wrote (a ++ b) l (putMid at (length now - at) now tail) (at + n)
 wrote-more {a} {b} {l} {now} {tail} {at} u w = record {
   all = ap₂ (λ (x y : ℕ). x + y) (u .all) (w .all) ∙ sym (length-append a b);
-  bytes = behind l now tail a b at (u .bytes) (u .all) (w .bytes);
+  bytes = written-after l now tail a b at (u .bytes) (u .all) (w .bytes);
 }
 
 pub wrote-length : {a l now : List ℕ} {at : ℕ} → Wrote a l now at → at ≤ length l → length now ≡ length l
@@ -109,7 +109,7 @@ wrote-none l = record { all = refl; bytes = refl }
 
 -- ---- the numbers of a line
 
--- a blank, and the digits behind it
+-- a blank, and the digits after it
 pub number-wrote : {l tail : List ℕ} {n : ℕ} (m : ℕ) → 1 ≤ length l
     → Wrote (show m) (midOf 1 (length (set l 0 (ch " ")) - 1) (set l 0 (ch " "))) tail n
     → Wrote (ch " " ∷ show m) l (putMid 1 (length (set l 0 (ch " ")) - 1) (set l 0 (ch " ")) tail) (1 + n)
@@ -172,7 +172,7 @@ module _ {ws l now : List ℕ} {at k : ℕ} (g : Numbered ws l at k now) where
 
 -- ---- a line
 
--- its first two bytes, and the name behind them
+-- its first two bytes, and the name after them
 pub head-wrote : {l tail : List ℕ} {n : ℕ} (ws : List ℕ) (x : ℕ) → x ≡ letter (getD ws 0 0) → 2 ≤ length l
     → Wrote (name-of (getD ws 1 0)) (midOf 2 (length (set (set l 0 x) 1 (ch " ")) - 2) (set (set l 0 x) 1 (ch " "))) tail n
     → Wrote (head ws) l (putMid 2 (length (set (set l 0 x) 1 (ch " ")) - 2) (set (set l 0 x) 1 (ch " ")) tail) (2 + n) × (2 + n ≤ 28)

@@ -1,4 +1,4 @@
--- What the rounds of the listing hand over to be written, one behind the other, are the lines of all items. Rests on the laws of runs
+-- What the rounds of the listing hand over to be written, one after the other, are the lines of all items. Rests on the laws of runs
 -- (crate `laws_run`).
 use Prim.Native.Nat.{ℕ, _+_}
 use mathlib.Core.Path.{_≡_, refl, sym, ap, ap₂, _∙_}
@@ -39,7 +39,7 @@ lines-found used (t ∷ ts) rest =
     ∙ ap₂ (λ (x y : List ℕ). line x ++ lines (length ts) y) first others
     ∙ ap₂ (λ (x y : Bytes). x ++ y) (line-without-6 (t .item) used) (lines-found (used + length (t .payload)) ts rest)
 
--- items one behind the other
+-- items one after the other
 lines-of-append : (ts us : List Step) → lines-of (ts ++ us) ≡ lines-of ts ++ lines-of us
 unfolding lines-of
 lines-of-append [] us = refl

@@ -26,7 +26,7 @@ name-of kind = getD names kind (cps "-")
 abbrev pub shown : List ℕ
 shown = 2 ∷ 3 ∷ 4 ∷ 5 ∷ 8 ∷ 9 ∷ 7 ∷ []
 
--- numbers in decimal, each behind a blank
+-- numbers in decimal, each after a blank
 unfoldable pub numbers : List ℕ → Bytes
 numbers [] = []
 numbers (n ∷ ns) = (ch " " ∷ show n) ++ numbers ns
@@ -39,7 +39,7 @@ head ws = letter (getD ws 0 0) ∷ ch " " ∷ name-of (getD ws 1 0)
 unfoldable pub line : List ℕ → Bytes
 line ws = head ws ++ (numbers (map (λ i. getD ws i 0) shown) ++ (ch "\n" ∷ []))
 
--- the lines of the first n records, one behind the other
+-- the lines of the first n records, one after the other
 unfoldable pub lines : ℕ → List ℕ → Bytes
 lines zero rs = []
 lines (suc n) rs = line (take record-size rs) ++ lines n (drop record-size rs)

@@ -68,7 +68,7 @@ module _ (s w : Bytes) (j i : ℕ) where
   unfolding match-lit
   lit-stop h e = rw (drop-cons w j 0) (rw (e, match-lit))
 
-  -- Behind its last byte the word is found.
+  -- After its last byte the word is found.
   pub lit-done : length w ≤ j → match-lit s (drop j w) i ≡ To i
   unfolding match-lit
   lit-done h = rw (drop-of-length-le w {i = j} h)

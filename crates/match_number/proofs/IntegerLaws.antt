@@ -12,7 +12,7 @@ use Rattle.match_lit.proofs.ByteLaws.{later-nothing}
 
 -- ---- matchers put together, from what their parts found
 
--- A matcher behind an end that is known by an equation.
+-- A matcher after an end that is known by an equation.
 pub then-of : (f : ℕ → Match) {m n r : Match} → r ≡ (m then f) → m ≡ n → r ≡ (n then f)
 then-of f p q = p ∙ ap (λ (k : Match). k then f) q
 
@@ -27,7 +27,7 @@ pub ends-are : (s : Bytes) (i : ℕ) {a b : Match} → a ≡ match-integer s i �
     → _≡_ {A = IntegerEnds} (record { plain = a; based = b }) (integer-ends s i)
 ends-are s i p q = ap₂ {C = IntegerEnds} (λ a b. record { plain = a; based = b }) p q
 
--- What is looked for behind both ends, where they are known by an equation.
+-- What is looked for after both ends, where they are known by an equation.
 pub ends-of : (s : Bytes) (i : ℕ) (f : ℕ → Match) {ends : IntegerEnds} {r : Match} → r ≡ later (ends .plain then f) (ends .based then f)
     → ends ≡ integer-ends s i → r ≡ later (match-integer s i then f) (match-xinteger s i then f)
 ends-of s i f p q = p ∙ ap (λ (e : IntegerEnds). later (e .plain then f) (e .based then f)) q
@@ -38,7 +38,7 @@ unfolding max-list
 two-ends a b = ap (later a) (sym (later-nothing b))
 
 module _ (s : Bytes) (i : ℕ) (word : Bytes) where
-  -- An integer with a suffix is a suffix behind either end.
+  -- An integer with a suffix is a suffix after either end.
   pub suffix-is : later (match-integer s i then match-lit s word) (match-xinteger s i then match-lit s word) ≡ match-int-suffix s i word
   unfolding match-int-suffix any-integer-ends
   suffix-is = two-ends (match-integer s i then match-lit s word) (match-xinteger s i then match-lit s word)

@@ -9,13 +9,13 @@ use Rattle.definition.specs.Chars.{is-digit, is-ident-char}
 use Rattle.definition.specs.Matchers.{_then_, later, only, plus, match-integer, match-floatp, skip-sign, is-e, match-real, match-bad-number}
 use Rattle.definition.specs.declared.Match.{Match}
 use Rattle.definition.specs.declared.Match.the-variants.{To, Nothing}
-use Rattle.match_number.specs.FloatParts.{byte-end, point, fraction, real-end, short-exponent, short-float, bad-number-behind}
+use Rattle.match_number.specs.FloatParts.{byte-end, point, fraction, real-end, short-exponent, short-float, bad-number-at-ends}
 use Rattle.match_number.proofs.IntegerLaws.{then-of}
 use Rattle.laws_longest.proofs.ThreeEnds.{three-ends}
 
 -- ---- fractions and exponents
 
--- Digits behind a point are a fraction.
+-- Digits after a point are a fraction.
 point-digits : (s : Bytes) (m : Match) → (m then point s then λ j. To (star is-digit s j)) ≡ (m then fraction s)
 unfolding byte-end fraction
 point-digits s (To j) = go (byte-is (ch ".") s j)
@@ -29,7 +29,7 @@ point-digits s Nothing = refl
 pub fraction-none : (s : Bytes) (m : Match) → (m then point s) ≡ Nothing → Nothing ≡ (m then fraction s)
 fraction-none s m e = ap (λ (n : Match). n then λ j. To (star is-digit s j)) (sym e) ∙ point-digits s m
 
--- With one it goes to the end of the digits behind it.
+-- With one it goes to the end of the digits after it.
 pub fraction-some : (s : Bytes) (m : Match) {j e : ℕ} → (m then point s) ≡ To j → e ≡ star is-digit s j → To e ≡ (m then fraction s)
 fraction-some s m p q = ap To q ∙ ap (λ (n : Match). n then λ j. To (star is-digit s j)) (sym p) ∙ point-digits s m
 
@@ -39,7 +39,7 @@ module _ (s : Bytes) (k : ℕ) where
   unfolding short-exponent
   short-no e = rw e
 
-  -- no digit behind it,
+  -- no digit after it,
   pub short-none : {x : ℕ} → byte-has is-e s k ≡ true → x ≡ skip-sign s (k + 1) → byte-has is-digit s x ≡ false → short-exponent s k ≡ Nothing
   unfolding short-exponent
   short-none {x} e q d = rw (e, ← q, d)
@@ -49,22 +49,22 @@ module _ (s : Bytes) (k : ℕ) where
   unfolding short-exponent
   short-yes {x} e q d = rw (e, ← q, d)
 
--- One matcher behind another goes over to the end of the whole.
+-- One matcher after another goes over to the end of the whole.
 then-then : (m : Match) (f g : ℕ → Match) → (m then f then g) ≡ (m then λ j. (f j then g))
 then-then (To j) f g = refl
 then-then Nothing f g = refl
 
--- `match-real` is an R behind a float.
+-- `match-real` is an R after a float.
 pub real-is : (s : Bytes) (i : ℕ) → (match-floatp s i then real-end s) ≡ match-real s i
 unfolding match-real byte-end
 real-is s i = refl
 
--- `match-floatp` is a fraction behind the digits.
+-- `match-floatp` is a fraction after the digits.
 pub floatp-is : (s : Bytes) (i : ℕ) → (match-integer s i then fraction s) ≡ match-floatp s i
 unfolding match-floatp fraction
 floatp-is s i = refl
 
--- An R behind a float that is known by equations.
+-- An R after a float that is known by equations.
 pub real-of : (s : Bytes) (i : ℕ) {digits float r : Match} → r ≡ (float then real-end s) → digits ≡ match-integer s i → float ≡ (digits then fraction s)
     → r ≡ match-real s i
 real-of s i p q h = then-of (real-end s) p (then-of (fraction s) h q ∙ floatp-is s i) ∙ real-is s i
@@ -77,15 +77,15 @@ short-is : (s : Bytes) (m : Match)
 unfolding short-float
 short-is s m = ap (later (m then short-exponent s)) (ap (λ (n : Match). n then short-exponent s) (sym (point-digits s m)) ∙ then-then (m then point s) (λ j. To (star is-digit s j)) (short-exponent s))
 
--- A number that goes wrong is identifier characters behind one of three ends, which are enough.
-pub bad-number-is : (s f : Bytes) (i : ℕ) → bad-number-behind s f (match-integer s i) (match-integer s i then fraction s) ≡ match-bad-number s f i
-unfolding bad-number-behind byte-end short-exponent
+-- A number that goes wrong is identifier characters after one of three ends, which are enough.
+pub bad-number-is : (s f : Bytes) (i : ℕ) → bad-number-at-ends s f (match-integer s i) (match-integer s i then fraction s) ≡ match-bad-number s f i
+unfolding bad-number-at-ends byte-end short-exponent
 bad-number-is s f i =
     let wrong : Match → Match = λ m. m then plus (is-ident-char f) s in
     ap (λ (m : Match). later (wrong (match-integer s i)) (later (wrong (match-integer s i then point s)) (wrong m))) (short-is s (match-integer s i)) ∙ three-ends s f i
 
 -- The same of digits and a fraction that are known by equations.
-pub bad-number-of : (s f : Bytes) (i : ℕ) {digits float r : Match} → r ≡ bad-number-behind s f digits float → digits ≡ match-integer s i
+pub bad-number-of : (s f : Bytes) (i : ℕ) {digits float r : Match} → r ≡ bad-number-at-ends s f digits float → digits ≡ match-integer s i
     → float ≡ (digits then fraction s) → r ≡ match-bad-number s f i
 bad-number-of s f i p q h =
-    p ∙ ap (bad-number-behind s f _) h ∙ ap (λ (m : Match). bad-number-behind s f m (m then fraction s)) q ∙ bad-number-is s f i
+    p ∙ ap (bad-number-at-ends s f _) h ∙ ap (λ (m : Match). bad-number-at-ends s f m (m then fraction s)) q ∙ bad-number-is s f i

@@ -8,7 +8,7 @@ use Rattle.definition.specs.Matchers.{_then_, later, only, plus, skip-sign, is-
 use Rattle.definition.specs.declared.Match.{Match}
 use Rattle.definition.specs.declared.Match.the-variants.{To}
 
--- the byte b, behind what ends at j
+-- the byte b, after what ends at j
 unfoldable pub byte-end : ℕ → Bytes → ℕ → Match
 byte-end b s j = only (byte-is b s j) (To (j + 1))
 
@@ -28,12 +28,12 @@ real-end = byte-end (ch "R")
 unfoldable pub short-exponent : Bytes → ℕ → Match
 short-exponent s k = only (byte-has is-e s k) (only (byte-has is-digit s (skip-sign s (k + 1))) (To (skip-sign s (k + 1) + 1)))
 
--- the shortest float with an exponent, behind digits or behind a fraction
+-- the shortest float with an exponent, after digits or after a fraction
 unfoldable pub short-float : Bytes → Match → Match → Match
 short-float s digits float = later (digits then short-exponent s) (float then short-exponent s)
 
--- identifier characters behind digits, behind the point there, or behind the shortest exponent
-unfoldable pub bad-number-behind : Bytes → Bytes → Match → Match → Match
-bad-number-behind s f digits float =
+-- identifier characters after digits, after the point there, or after the shortest exponent
+unfoldable pub bad-number-at-ends : Bytes → Bytes → Match → Match → Match
+bad-number-at-ends s f digits float =
     let wrong : Match → Match = λ m. m then plus (is-ident-char f) s in
     later (wrong digits) (later (wrong (digits then point s)) (wrong (short-float s digits float)))

@@ -13,6 +13,6 @@ use Rattle.match_number.specs.declared.IntegerEnds.{IntegerEnds}
 abbrev pub integer-ends : Bytes → ℕ → IntegerEnds
 integer-ends s i = record { plain = match-integer s i; based = match-xinteger s i }
 
--- u or U and a word, behind an integer that ends at e
+-- u or U and a word, after an integer that ends at e
 unfoldable pub usuffix : Bytes → Bytes → ℕ → Match
 usuffix s word e = only (byte-has (λ c. eqb c (ch "u") || eqb c (ch "U")) s e) (match-lit s word (e + 1))

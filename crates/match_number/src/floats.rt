@@ -17,7 +17,7 @@ ghost use mathlib.Core.Path.{_≡_};
 ghost use Rattle.definition.specs.ClassFile.{class-check};
 ghost use Rattle.definition.specs.Chars.{is-ident-char};
 ghost use Rattle.definition.specs.Matchers.{_then_, plus, match-floatp, skip-sign, match-real, match-bad-number};
-ghost use Rattle.match_number.specs.FloatParts.{byte-end, fraction, real-end, short-exponent, short-float, bad-number-behind};
+ghost use Rattle.match_number.specs.FloatParts.{byte-end, fraction, real-end, short-exponent, short-float, bad-number-at-ends};
 
 // ---- floats
 
@@ -125,7 +125,7 @@ fn ident_chars_after(text: &[u8], file: &[u8], m: Match) -> Match
 // letter, what goes on after it goes on after its 0.
 pub fn bad_number_after(text: &[u8], file: &[u8], digits: Match, float: Match) -> Match
     requires { ⌜ class-check (now file) ≡ 0 ⌝ }
-    ensures { λ r. ⌜ r ≡ bad-number-behind (now (text .entry)) (now (file .entry)) digits float ⌝ }
+    ensures { λ r. ⌜ r ≡ bad-number-at-ends (now (text .entry)) (now (file .entry)) digits float ⌝ }
 {
     let mut end = ident_chars_after(text, file, short_float(text, digits, float));
     end = later(

@@ -1,4 +1,4 @@
--- Line ends, and a character with a run behind it, by what stands at the offset. Rests on the laws of one character.
+-- Line ends, and a character with a run after it, by what stands at the offset. Rests on the laws of one character.
 use Prim.Native.Nat.{ℕ, _+_}
 use mathlib.Core.Path.{_≡_, sym, ap, _∙_}
 use mathlib.Core.Bool.{Bool, true, false, _&&_, false≢true}
@@ -24,7 +24,7 @@ use Rattle.star.proofs.RunLaws.{one-yes, one-no, one-other, no-char}
 -- ---- a character that passes a test, and a run over another
 
 module _ (p q : ℕ → Bool) (s : Bytes) (i : ℕ) where
-  -- A character that passes leads to the end of the run behind it.
+  -- A character that passes leads to the end of the run after it.
   pub head-yes : {c w e : ℕ} → sequence-at s i ≡ Char c w → p c ≡ true → e ≡ star q s (i + w) → To e ≡ (one p s i then λ j. To (star q s j))
   head-yes h t e = ap To e ∙ ap (λ (m : Match). m then λ j. To (star q s j)) (sym (one-yes p s i h t))
 
@@ -72,7 +72,7 @@ module _ (s : Bytes) (i : ℕ) where
     pub newline-one : is-newline-char c ≡ true → (c ≡ ch "\r" → ⊥) → match-newline s i ≡ To (i + w)
     newline-one t n = not-return e (ne-eqb c (ch "\r") n) ∙ one-yes is-newline-char s i e t
 
-    -- CR with LF behind it is one of two characters.
+    -- CR with LF after it is one of two characters.
     pub newline-two : c ≡ ch "\r" → byte-is (ch "\n") s (i + 1) ≡ true → match-newline s i ≡ To (i + 2)
     unfolding match-newline
     newline-two r b =

@@ -53,7 +53,7 @@ module _ (p : ℕ → Bool) (s : Bytes) (i : ℕ) where
 abbrev letters : List ℕ
 letters = codes "\\\"'bfntrv0"
 
--- what stands behind a backslash at i and the byte c
+-- what stands after a backslash at i and the byte c
 abbrev pub escape-rest : Bytes → ℕ → ℕ → Match
 escape-rest s i c =
     if mem-cp c letters then To (i + 2) else
@@ -82,7 +82,7 @@ module _ (s : Bytes) (i c : ℕ) where
     rest-none h = rw (l, h, and-false (eqb c (ch "x")), and-false (eqb c (ch "u")))
 
     module _ (h : hex-pair s (i + 2) ≡ true) where
-      -- Behind x that is all.
+      -- After x that is all.
       pub rest-x : c ≡ ch "x" → escape-rest s i c ≡ To (i + 4)
       rest-x e = rw (l, eq-eqb c (ch "x") e, h)
 
@@ -90,7 +90,7 @@ module _ (s : Bytes) (i c : ℕ) where
       pub rest-neither : (c ≡ ch "x" → ⊥) → (c ≡ ch "u" → ⊥) → escape-rest s i c ≡ Nothing
       rest-neither n m = rw (l, ne-eqb c (ch "x") n, ne-eqb c (ch "u") m)
 
-      -- Behind u two more follow,
+      -- After u two more follow,
       pub rest-u : (c ≡ ch "x" → ⊥) → c ≡ ch "u" → hex-pair s (i + 4) ≡ true → escape-rest s i c ≡ To (i + 6)
       rest-u n e k = rw (l, ne-eqb c (ch "x") n, eq-eqb c (ch "u") e, h, k)
 
@@ -99,7 +99,7 @@ module _ (s : Bytes) (i c : ℕ) where
       rest-short n e k = rw (l, ne-eqb c (ch "x") n, eq-eqb c (ch "u") e, h, k)
 
 module _ (s : Bytes) (i : ℕ) where
-  -- Behind a backslash the next byte decides.
+  -- After a backslash the next byte decides.
   pub escape-at : {c : ℕ} → byte-is (ch "\\") s i ≡ true → byte s (i + 1) ≡ Byte c → match-escape s i ≡ escape-rest s i c
   unfolding match-escape hex-pair
   escape-at {c} t e =
@@ -109,7 +109,7 @@ module _ (s : Bytes) (i : ℕ) where
       let group = and-assoc (hex 2) (hex 3) (hex 4 && hex 5) in
       rw (t, octet-has (λ c. mem-cp c letters) s (i + 1) c e, octet-has (λ x. eqb x (ch "x")) s (i + 1) c e, octet-has (λ x. eqb x (ch "u")) s (i + 1) c e, three, five, group)
 
-  -- With no byte behind it a backslash is no escape.
+  -- With no byte after it a backslash is no escape.
   pub escape-past : byte-is (ch "\\") s i ≡ true → byte s (i + 1) ≡ No-byte → match-escape s i ≡ Nothing
   unfolding match-escape
   escape-past t e = rw (t, octet-past (λ c. mem-cp c letters) s (i + 1) e, octet-past (λ x. eqb x (ch "x")) s (i + 1) e, octet-past (λ x. eqb x (ch "u")) s (i + 1) e)
@@ -151,7 +151,7 @@ unfolding in-backticks
 ticks-yes c n e = rw (ne-eqb c (ch "`") n, e)
 
 module _ (s : Bytes) (j : ℕ) where
-  -- At a backtick a part is what stands behind it.
+  -- At a backtick a part is what stands after it.
   pub part-tick : byte-is (ch "`") s j ≡ true → backtick-part s j ≡ one in-backticks s (j + 1)
   unfolding backtick-part
   part-tick t =
@@ -196,7 +196,7 @@ module _ (s : Bytes) (j : ℕ) where
       first (To k) b = refl
       first Nothing b = second b
 
-  -- Behind a part the loop goes on.
+  -- After a part the loop goes on.
   pub ident-on : {k : ℕ} (n : ℕ) → backtick-part s j ≡ To k → backtick-from s (j, n) ≡ backtick-from s (k, n + 1)
   ident-on n e = backtick-unroll s (j, n) ∙ ap (λ (t : Turn (ℕ × ℕ) Match). says t (backtick-from s)) (turn-is n ∙ ap (part-turn n) e)
 
@@ -225,7 +225,7 @@ module _ (s : Bytes) (i : ℕ) where
     pub ident-empty : n ≡ 0 → match-backtick-ident s i ≡ Nothing
     ident-empty h = ident-is ∙ rw h
 
-    -- and two backticks behind its last.
+    -- and two backticks after its last.
     pub ident-open : byte-is (ch "`") s j && byte-is (ch "`") s (j + 1) ≡ false → match-backtick-ident s i ≡ Nothing
     ident-open h = ident-is ∙ rw (h, and-false (ltb 0 n))
 

@@ -18,6 +18,6 @@ hex-pair s i = byte-has is-hex s i && byte-has is-hex s (i + 1)
 unfoldable pub in-backticks : ℕ → Bool
 in-backticks c = not (eqb c (ch "`")) && not (is-newline-char c)
 
--- such a character, or one behind a backtick
+-- such a character, or one after a backtick
 unfoldable pub backtick-part : Bytes → ℕ → Match
 backtick-part s j = elim (one in-backticks s j) [ To k ↦ To k | Nothing ↦ only (byte-is (ch "`") s j) (one in-backticks s (j + 1)) ]

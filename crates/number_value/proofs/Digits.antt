@@ -38,7 +38,7 @@ pub show-last : (n : ℕ) → n < 10 → show n ≡ (48 + n) ∷ []
 unfolding show
 show-last n h = loop-done falls (λ a. a .1) (suc n) (n, []) ((48 + n) ∷ []) tt (omega arith) (turn-last n [] h)
 
--- Digits that are already taken stand behind those of the number.
+-- Digits that are already taken stand after those of the number.
 show-onto : (m n : ℕ) (ds : Bytes) → n < m → loop show-turn (λ a. a .1) m (n, ds) ≡ show n ++ ds
 unfolding show
 show-onto zero n ds h = absurd (omega arith)
@@ -91,7 +91,7 @@ module _ {n left count : ℕ} (c : Counted n left count) where
       let e : length (show left) ≡ 1 = ap length (show-last left h) in
       omega arith
 
--- ---- the writing: the digits of what is left are still to be written in front of those that stand behind `at`
+-- ---- the writing: the digits of what is left are still to be written in front of those that stand after `at`
 
 pub record Showing (n : ℕ) (d : Bytes) (left at : ℕ) (l : Bytes) : Type 0 where
   pub fits : length (show n) ≤ length d
@@ -119,7 +119,7 @@ module _ {n : ℕ} {d : Bytes} {left at : ℕ} {l : Bytes} (s : Showing n d left
       ap length (s .written)
       ∙ simp (length-append, length-drop, length-take-le at d (omega arith)) (omega arith)
 
-  -- The last of the digits left, x, which stands behind ds, is the one to write.
+  -- The last of the digits left, x, which stands after ds, is the one to write.
   module _ (ds : Bytes) (x : ℕ) (e : show left ≡ ds ++ x ∷ []) where
     digit-place : at ≡ suc (length ds)
     digit-place =

@@ -10,7 +10,7 @@ use types.Run.{OneOf}
 use lib.ListN.{length, getD, take, drop, drop-of-length-le}
 use lib.Seq.{slice, slice-empty, drop-cons, drop-append-le, take-suc, take-length, length-take-le}
 use Rattle.definition.specs.Basics.{Bytes, codes, mem-cp}
-use Rattle.definition.specs.Numbers.{strips, strip-left, behind, strip-right, clean-number}
+use Rattle.definition.specs.Numbers.{strips, strip-left, strip-if-last, strip-right, clean-number}
 use Rattle.lemmas.proofs.Cases.{by-order}
 use Rattle.lemmas.proofs.Members.{mem-yes, mem-no}
 use Rattle.number_value.specs.CleaningContracts.{LeftStripped, RightStripped, Cleaned}
@@ -47,7 +47,7 @@ pub left-starts : (s : Bytes) → FromLeft s 0
 left-starts s = record { within = omega arith; same = refl }
 
 module _ {s : Bytes} {from : ℕ} (f : FromLeft s from) where
-  -- Where a byte goes, the one behind it is asked.
+  -- Where a byte goes, the one after it is asked.
   pub left-goes-on : from < length s → strips (getD s from 0) ≡ true → FromLeft s (from + 1)
   unfolding strip-left
   left-goes-on h e = record {
@@ -77,16 +77,16 @@ module _ {s : Bytes} {from : ℕ} (f : FromLeft s from) where
 
 -- A last byte that goes leaves what stands in front of it.
 strip-last : (l : Bytes) (b : ℕ) → strips b ≡ true → strip-right (l ++ b ∷ []) ≡ strip-right l
-unfolding strip-right behind
-strip-last [] b e = rw (behind, e)
-strip-last (x ∷ l) b e = ap (behind x) (strip-last l b e)
+unfolding strip-right strip-if-last
+strip-last [] b e = rw (strip-if-last, e)
+strip-last (x ∷ l) b e = ap (strip-if-last x) (strip-last l b e)
 
 -- One that stays leaves everything.
 keep-last : (l : Bytes) (b : ℕ) → strips b ≡ false → strip-right (l ++ b ∷ []) ≡ l ++ b ∷ []
-unfolding strip-right behind
-keep-last [] b e = rw (behind, e)
-keep-last (x ∷ []) b e = ap (behind x) (keep-last [] b e)
-keep-last (x ∷ y ∷ l) b e = ap (behind x) (keep-last (y ∷ l) b e)
+unfolding strip-right strip-if-last
+keep-last [] b e = rw (strip-if-last, e)
+keep-last (x ∷ []) b e = ap (strip-if-last x) (keep-last [] b e)
+keep-last (x ∷ y ∷ l) b e = ap (strip-if-last x) (keep-last (y ∷ l) b e)
 
 pub record FromRight (s : Bytes) (from to : ℕ) : Type 0 where
   pub ordered : from ≤ to

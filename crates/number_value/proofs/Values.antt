@@ -74,7 +74,7 @@ int-zero [] h e = absurd (omega arith)
 int-zero (b ∷ []) h e = rw (int-of-string, eq-eqb b 48 e)
 int-zero (b ∷ d ∷ l) h e = absurd (omega arith)
 
--- Behind a first 0 without a base stand decimal digits.
+-- After a first 0 without a base stand decimal digits.
 pub int-decimal : (s : Bytes) → (length s ≡ 0 → ⊥) → (length s ≡ 1 → ⊥) → getD s 0 0 ≡ 48 → base-of (getD s 1 0) ≡ 0
     → int-of-string s ≡ value-from 10 0 (drop 1 s)
 unfolding int-of-string after-zero
@@ -82,7 +82,7 @@ int-decimal [] empty single e h = absurd (empty refl)
 int-decimal (b ∷ []) empty single e h = absurd (single refl)
 int-decimal (b ∷ d ∷ l) empty single e h = rw (int-of-string, eq-eqb b 48 e, after-zero, eq-eqb (base-of d) 0 h)
 
--- Behind a 0 and a base stand the digits of that base.
+-- After a 0 and a base stand the digits of that base.
 pub int-based : (s : Bytes) → (length s ≡ 0 → ⊥) → (length s ≡ 1 → ⊥) → getD s 0 0 ≡ 48 → (base-of (getD s 1 0) ≡ 0 → ⊥)
     → int-of-string s ≡ value-from (base-of (getD s 1 0)) 0 (drop 2 s)
 unfolding int-of-string after-zero

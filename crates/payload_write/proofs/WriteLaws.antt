@@ -19,7 +19,7 @@ use Rattle.read_string.proofs.LiteralLaws.{literal-starts, literal-on, literal-
 use Rattle.read_string.proofs.Growth.{literal-grows, grows-longer, grows-ends}
 use Rattle.read_string.proofs.LoopLaws.{on-past}
 use Rattle.payload_write.specs.Contracts.{Puts, Writes}
-use Rattle.lemmas.proofs.Tails.{tail-lent, behind}
+use Rattle.lemmas.proofs.Tails.{tail-lent, written-after}
 
 -- acc, which is what the literal holds before byte i, is written, `at` bytes of n
 pub record Writing (s f : Bytes) (from n : ℕ) (before : Bytes) (i at : ℕ) (now : Bytes) : Type 0 where
@@ -116,5 +116,5 @@ module _ {s f : Bytes} {from n : ℕ} {before : Bytes} {i at : ℕ} {now : Bytes
           fits = writing-fits;
           long = w .long;
           room = w .room;
-          is = behind before now exit (w .acc) (adds s i m) at (w .is) (w .counted) (p .bytes);
+          is = written-after before now exit (w .acc) (adds s i m) at (w .is) (w .counted) (p .bytes);
         }

@@ -28,7 +28,7 @@ ascii-count s i (suc n) h =
     let rest : count-chars one-each s (suc i) n ≡ n = ascii-count s (suc i) n (λ k p q. h k (omega arith) (omega arith)) in
     omega arith
 
--- the column of an offset behind the known one, with nothing but ASCII between
+-- the column of an offset after the known one, with nothing but ASCII between
 ascii-column : (s : Bytes) (st : State) (known : Cache) (p : AsciiRun) (i : ℕ) → Plain s p → p .from ≤ known .off → known .off ≤ i → i ≤ p .to
     → Asked one-each s st known i → _≡_ {A = Cache} (record { off = i; col = known .col + (i - known .off) }) (column-at one-each s st i)
 ascii-column s st known p i h f b t a =
@@ -38,10 +38,10 @@ ascii-column s st known p i h f b t a =
 -- both ends of a token that a run of ASCII covers
 module _ {s : Bytes} {st : State} {known : Cache} {p : AsciiRun} {from to : ℕ} (h : Plain s p) (v : Covers p known from to) where
   pub start-covered : Asked one-each s st known from → _≡_ {A = Cache} (record { off = from; col = known .col + (from - known .off) }) (column-at one-each s st from)
-  start-covered = ascii-column s st known p from h (v .starts) (v .behind) (omega (arith, v .order, v .ends))
+  start-covered = ascii-column s st known p from h (v .starts) (v .after) (omega (arith, v .order, v .ends))
 
   pub end-covered : Asked one-each s st known to → _≡_ {A = Cache} (record { off = to; col = known .col + (to - known .off) }) (column-at one-each s st to)
-  end-covered = ascii-column s st known p to h (v .starts) (omega (arith, v .behind, v .order)) (v .ends)
+  end-covered = ascii-column s st known p to h (v .starts) (omega (arith, v .after, v .order)) (v .ends)
 
 -- where one column was asked for, another may be asked from there
 pub asked-on : {w : Weight} {s : Bytes} {st : State} {known : Cache} {i j : ℕ} (c : Cache) → c ≡ column-at w s st i

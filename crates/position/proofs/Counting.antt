@@ -16,7 +16,7 @@ use Rattle.position.specs.Columns.{unit, Known, Asked, column-at}
 
 -- ---- any weight
 
--- the count of n bytes and of the m bytes behind them
+-- the count of n bytes and of the m bytes after them
 pub count-split : (w : Weight) (s : Bytes) (i n m : ℕ) → count-chars w s i (n + m) ≡ count-chars w s i n + count-chars w s (i + n) m
 unfolding count-chars
 count-split w s i zero m = simp (zero-add, add-zero)

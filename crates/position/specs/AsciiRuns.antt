@@ -16,6 +16,6 @@ Plain s p = Ascii s (p .from) (p .to)
 -- the run of ASCII holds the bytes from the known offset up to `to`, and `from` is between them
 pub record Covers (p : AsciiRun) (known : Cache) (from to : ℕ) : Type 0 where
   pub starts : p .from ≤ known .off
-  pub behind : known .off ≤ from
+  pub after : known .off ≤ from
   pub order : from ≤ to
   pub ends : to ≤ p .to

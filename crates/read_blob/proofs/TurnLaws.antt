@@ -109,7 +109,7 @@ module _ (s : Bytes) (header : Header) (from : ℕ) (at : Cursor) (h : InBlob s 
       → Leads (λ b. Stands s b × (b .mode ≡ 0)) (λ t. Stands s (t .next)) (does s lang from (header-of s header) (at .st) m)
   leads m e = move-stands s from (header-of s header) (at .st) lang m (h .standing .stands) (h .between) e
 
-  -- behind the end reading stands
+  -- after the end reading stands
   pub close-stands : (e : ℕ) → move-at s lang (at .st .offset) ≡ Close e → Stands s (advance (at .st) e)
   close-stands e q = leads (Close e) q
 

@@ -35,7 +35,7 @@ abbrev pub contents : Bytes → Bool → source.Header → State → Step
 contents s true h st = source.use-lang s h st
 contents s false h st = source.blob s h st
 
--- the blob whose contents end at st, behind which reading goes on at e
+-- the blob whose contents end at st, after which reading goes on at e
 abbrev pub blob-step : Bytes → Bool → ℕ → source.Header → State → ℕ → Step
 blob-step s lang from h st e =
     let next = advance st e in

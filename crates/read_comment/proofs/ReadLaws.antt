@@ -25,7 +25,7 @@ use Rattle.position.proofs.Counting.{known-again}
 use Rattle.reader.specs.declared.Cursor.{Cursor}
 use Rattle.reader.specs.declared.Payload.the-variants.{Part}
 use Rattle.reader.proofs.Standing.{asks, known-kept, stays}
-use Rattle.read_comment.specs.LineCommentContracts.{Behind, ReadsAny}
+use Rattle.read_comment.specs.LineCommentContracts.{After, ReadsAny}
 
 -- Two parts of a text in a row are one.
 slice-slice : (i j k : ℕ) (s : Bytes) → i ≤ j → j ≤ k → k ≤ length s → slice i j s ++ slice j k s ≡ slice i k s
@@ -33,13 +33,13 @@ slice-slice i j k s p q r =
     let n : j ≤ length (take k s) = omega (arith, length-take k s) in
     ap (λ (l : Bytes). drop i l ++ slice j k s) (sym (take-take j k s q)) ∙ slice-then-drop i j (take k s) p n
 
--- where a line's comment may end: behind its start, within the text
+-- where a line's comment may end: after its start, within the text
 pub record LineEnd (s : Bytes) (st : State) (to : ℕ) : Type 0 where
   pub on : st .offset ≤ to
   pub within : to ≤ length s
   pub fits : to ≤ 1048576
 
-module _ {s : Bytes} {from to : ℕ} {at : Cursor} (h : Behind s from at) (e : to ≡ star (goes-on (ch "\n") (ch "\n")) s (at .st .offset)) where
+module _ {s : Bytes} {from to : ℕ} {at : Cursor} (h : After s from at) (e : to ≡ star (goes-on (ch "\n") (ch "\n")) s (at .st .offset)) where
   -- A line's comment ends there.
   pub line-ends : LineEnd s (at .st) to
   line-ends =

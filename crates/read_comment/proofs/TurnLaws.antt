@@ -87,7 +87,7 @@ module _ {s : Bytes} {at : Cursor} (h : AtMark s at) where
   closing : byte-is (ch "*") s (at .st .offset) && byte-is (ch ")") s (at .st .offset + 1) ≡ true → Onward s (at .st .offset) (at .st .offset + 2)
   closing t = two-onward s (ch "*") (ch ")") (at .st .offset) (omega arith) (omega arith) t
 
-  -- Behind them the piece has ended.
+  -- After them the piece has ended.
   pub closed-ending : {p : Cursor} → byte-is (ch "*") s (at .st .offset) && byte-is (ch ")") s (at .st .offset + 1) ≡ true
       → p ≡ moved at (at .st .offset + 2) → Ending s (at .st .offset) p
   closed-ending t e =

@@ -36,7 +36,7 @@ pub record AtMark (s : Bytes) (at : Cursor) : Type 0 where
   pub shut : byte-is (ch "(") s (at .st .offset) && byte-is (ch "*") s (at .st .offset + 1) ≡ false
   pub line : match-newline s (at .st .offset) ≡ Nothing
 
--- a reader stands behind a piece whose text ends at `to`
+-- a reader stands after a piece whose text ends at `to`
 pub record Ending (s : Bytes) (to : ℕ) (at : Cursor) : Type 0 where
   pub standing : Standing s (at .st) (at .known)
   pub within : to ≤ length s

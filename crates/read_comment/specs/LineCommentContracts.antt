@@ -12,7 +12,7 @@ use Rattle.reader.specs.declared.Read.{Read}
 abbrev pub ReadsAny : Bytes → Step → Read → Type 0
 ReadsAny s t r = (name f : Bytes) → Reads s name f t r
 
--- a reader stands behind what began at `from`
-pub record Behind (s : Bytes) (from : ℕ) (at : Cursor) : Type 0 where
+-- a reader stands after what began at `from`
+pub record After (s : Bytes) (from : ℕ) (at : Cursor) : Type 0 where
   pub standing : Standing s (at .st) (at .known)
   pub order : from ≤ at .st .offset

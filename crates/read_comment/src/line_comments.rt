@@ -15,11 +15,11 @@ use reader::span;
 use star::stops::run_end;
 ghost use Rattle.definition.specs.Text.{lexeme};
 ghost use Rattle.definition.specs.Comment.{line-comment};
-ghost use Rattle.read_comment.specs.LineCommentContracts.{Behind, ReadsAny};
+ghost use Rattle.read_comment.specs.LineCommentContracts.{After, ReadsAny};
 
 // The rest of the line from where the reader stands, and before it the bytes from `from` up to there.
 pub fn line_comment(text: &[u8], from: usize, at: Cursor) -> Read
-    requires { ⌜ Behind (now text) from at ⌝ }
+    requires { ⌜ After (now text) from at ⌝ }
     ensures { λ r. ⌜ ReadsAny (now (text .entry)) (line-comment (now (text .entry)) (lexeme (now (text .entry)) from (at .st .offset)) (at .st)) r ⌝ }
 {
     let st = at.st;

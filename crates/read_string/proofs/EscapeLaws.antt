@@ -25,7 +25,7 @@ use Rattle.laws_progress.proofs.Walks.{byte-passes}
 use Rattle.laws_progress.proofs.Ends.{Ends, ends-nothing, ends-to, ends-only, ends-if}
 use Rattle.laws_progress.proofs.Matches.{small-mem, small-hex}
 use Rattle.escapes.specs.Contracts.{escaped}
-use Rattle.escapes.proofs.Behind.{code-of, unescape-slash}
+use Rattle.escapes.proofs.EscapeLaws.{code-of, unescape-slash}
 
 -- the letters that make an escape by themselves
 abbrev letters : List ℕ
@@ -48,7 +48,7 @@ three-bytes c h = by-size (λ (l : Bytes). length l ≤ 3) c (λ _. omega arith)
 
 -- ---- the value of two hexadecimal digits, and of four: each is worth at most 127, its byte being one of ASCII
 
--- two digits, behind those of the value n
+-- two digits, after those of the value n
 value-two : (n a b : ℕ) → a < 0x80 → b < 0x80 → value-from 16 n (a ∷ b ∷ []) ≤ 256 * n + 2159
 unfolding value-from
 value-two n a b h k = omega (arith, digit-small a (digit-value a) refl, digit-small b (digit-value b) refl)
@@ -67,7 +67,7 @@ module _ (s : Bytes) (i : ℕ) where
       let h = byte-passes is-hex s k t in
       (h .0, small-hex _ (h .1))
 
-  -- two bytes, and what is behind them
+  -- two bytes, and what is after them
   next-two : (k e : ℕ) → k + 2 ≤ e → e ≤ length s → slice k e s ≡ getD s k 0 ∷ getD s (k + 1) 0 ∷ slice (k + 2) e s
   next-two k e h l =
       let q : k + 1 + 1 ≡ k + 2 = omega arith in
@@ -106,7 +106,7 @@ module _ (s : Bytes) (i : ℕ) where
       (value-four (getD s k 0) (getD s (k + 1) 0) (getD s (k + 2) 0) (getD s (k + 2 + 1) 0)
       (digit k t .1) (digit (k + 1) u .1) (digit (k + 2) v .1) (digit (k + 2 + 1) w .1))
 
-  -- ---- what stands behind a backslash
+  -- ---- what stands after a backslash
 
   module _ (slash : byte-is (ch "\\") s i ≡ true) where
     -- the byte there decides
@@ -147,7 +147,7 @@ module _ (s : Bytes) (i : ℕ) where
         let c : unescape s i < 0x80 = subst (λ (n : ℕ). n < 0x80) (decides (b .0)) (letter-small x (b .1) k) in
         record { small = omega arith; fewer = omega (arith, one-byte (unescape s i) c) }
 
-    -- digits, behind the letter that asks for them
+    -- digits, after the letter that asks for them
     digits-are : (x n : ℕ) → byte-is x s (i + 1) ≡ true → escaped s i x ≡ n → unescape s i ≡ n
     digits-are x n t e =
         let b = byte-passes (λ y. eqb y x) s (i + 1) t in

@@ -1,4 +1,4 @@
--- Where what stands in a literal ends: behind its start, and within the text; and what it adds is no longer than it is. Rests on
+-- Where what stands in a literal ends: after its start, and within the text; and what it adds is no longer than it is. Rests on
 -- the ends of matchers and runs (crate `laws_progress`) and on what escapes stand for.
 use Prim.Native.Nat.{ℕ, _+_}
 use mathlib.Core.Path.{_≡_}
@@ -14,7 +14,7 @@ use Rattle.definition.specs.declared.Match.the-variants.{To}
 use Rattle.lemmas.proofs.Cases.{by-test, by-lt, by-le, by-match}
 use Rattle.laws_progress.proofs.Walks.{Onward, walk-past, onward-walk, star-walks}
 use Rattle.laws_progress.proofs.Ends.{Ends, ends-only}
-use Rattle.laws_progress.proofs.Matches.{behind, byte-is-onward, newline-ends, escape-ends}
+use Rattle.laws_progress.proofs.Matches.{after-walk, byte-is-onward, newline-ends, escape-ends}
 use Rattle.read_string.specs.Moves.{escape-move, last-move, stop-move, broken-line, string-move}
 use Rattle.read_string.specs.Ends.{Past, Goes}
 use Rattle.read_string.proofs.EscapeLaws.{escape-shrinks}
@@ -48,7 +48,7 @@ module _ (s : Bytes) (i : ℕ) where
 
   -- a backslash and a line's end
   broken : Ends (Onward s i) (broken-line s i)
-  broken = ends-only (byte-is (ch "\\") s i) (λ t. behind s (byte-is-onward s (ch "\\") i (omega arith) t .walk) (newline-ends s (i + 1)))
+  broken = ends-only (byte-is (ch "\\") s i) (λ t. after-walk s (byte-is-onward s (ch "\\") i (omega arith) t .walk) (newline-ends s (i + 1)))
 
   -- Whatever stands there.
   pub move-goes : (f : Bytes) → Goes s i (string-move s f i)

@@ -29,7 +29,7 @@ pub data Grows (acc l : Bytes) : Type 0 where
   wrong : l ≡ [] → Grows acc l
   right : Begins acc l → Grows acc l
 
--- more behind it
+-- more after it
 begins-on : {acc x : Bytes} (y : Bytes) → Begins acc x → Begins acc (x ++ y)
 begins-on {acc} {x} y h = record { more = h .more ++ y; is = ap (λ (z : Bytes). z ++ y) (h .is) ∙ append-assoc acc (h .more) y }
 

@@ -17,7 +17,7 @@ use Rattle.read_string.specs.Ends.{Past, Goes, adds, ends-at, On}
 use Rattle.read_string.specs.Literal.{literal-from, Held}
 use Rattle.read_string.proofs.LiteralLaws.{literal-starts, literal-on}
 
--- a part and the part behind it
+-- a part and the part after it
 part-part : (s : Bytes) (a b c : ℕ) → a ≤ b → b ≤ c → c ≤ length s → lexeme s a b ++ lexeme s b c ≡ lexeme s a c
 part-part s a b c h k l =
     let n : b ≤ length (take c s) = omega (arith, length-slice 0 c s l) in
@@ -53,7 +53,7 @@ module _ {s f : Bytes} {from i count : ℕ} {acc : Bytes} (h : Held s f from i c
             ∙ part-part s from i e b (omega (arith, p .past)) (p .within);
       }
 
-  -- up to the end of a move behind which it goes on
+  -- up to the end of a move after which it goes on
   pub held-on : (m : Move) (n : ℕ) → On m → Goes s i m → string-move s f i ≡ m → n ≡ length (adds s i m)
       → Held s f from (ends-at i m) (count + n) (acc ++ adds s i m)
   held-on (Copy e) n o g q c =

@@ -99,7 +99,7 @@ module _ (s f : Bytes) where
         (string-unroll s f no-pos (st, acc)
         ∙ ap (λ (t : Turn (State × Bytes) Step). says t (string-from s f no-pos)) (turn-does s f no-pos st acc ∙ ap (does s no-pos st acc) e))
 
-    -- a move behind which it goes on
+    -- a move after which it goes on
     pub literal-on : (m : Move) → On m → string-move s f i ≡ m → literal-from s f i acc ≡ literal-from s f (ends-at i m) (acc ++ adds s i m)
     literal-on (Copy e) o q = by-move (Copy e) q
     literal-on (Skip e) o q =

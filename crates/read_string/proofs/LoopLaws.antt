@@ -42,7 +42,7 @@ added-is s i Surrogate g = refl
 added-is s i (Close e) g = refl
 added-is s i Open g = refl
 
--- a move behind which the literal goes on reads something
+-- a move after which the literal goes on reads something
 pub on-past : {s : Bytes} {i : ℕ} (m : Move) → On m → Goes s i m → Past s i (ends-at i m)
 on-past (Copy e) o g = g
 on-past (Skip e) o g = g

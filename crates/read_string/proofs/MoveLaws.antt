@@ -73,7 +73,7 @@ module _ (s : Bytes) (i : ℕ) where
 
   -- ---- a backslash and a line's end
 
-  -- behind a backslash
+  -- after a backslash
   pub broken-on : {m : Match} → byte-is (ch "\\") s i ≡ true → m ≡ match-newline s (i + 1) → m ≡ broken-line s i
   broken-on t e = rw t e
 

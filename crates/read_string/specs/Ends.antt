@@ -38,7 +38,7 @@ ends-at i Surrogate = i
 ends-at i (Close e) = e
 ends-at i Open = i
 
--- the literal goes on behind a move
+-- the literal goes on after a move
 abbrev pub On : Move → Type 0
 On (Copy e) = Unit {0}
 On (Skip e) = Unit {0}
@@ -48,7 +48,7 @@ On Surrogate = ⊥
 On (Close e) = ⊥
 On Open = ⊥
 
--- e is behind i and within the text
+-- e is after i and within the text
 pub record Past (s : Bytes) (i e : ℕ) : Type 0 where
   pub past : i < e
   pub within : e ≤ length s

@@ -59,7 +59,7 @@ module _ {s : Bytes} {at : Cursor} {e : ℕ} (h : Chose s at e) where
   pub cut-spans : {name : Bytes} {to from : ℕ} → to ≡ no-comment s i e → Spans s name at i to (Part from to)
   cut-spans q = spans-to h (cut-stands i (omega arith) q) (part-sized h (cut-within i (omega arith) q))
 
-  -- so may one that begins behind a `>`
+  -- so may one that begins after a `>`
   pub gt-spans : {name : Bytes} {to : ℕ} → to ≡ no-comment s (i + 1) e → Spans s name at (i + 1) to (Greater (i + 1) to)
   gt-spans {name} {to} q =
       let l : i ≤ i + 1 = omega arith in
@@ -91,7 +91,7 @@ module _ {s : Bytes} {at : Cursor} {e : ℕ} (h : Chose s at e) where
           token-rules (lexeme s (i + n) to) describes (cut-spans q)
           (rw (← q, ← m, rest-none (lexeme s (i + n) to) (kind (x .kind)) (kind (x .op-kind)) (omega (arith, size)), ← p) refl)
 
-    -- `>` and what is left behind it
+    -- `>` and what is left after it
     pub gt-rules : {to : ℕ} → to ≡ no-comment s (i + 1) e → Rules s name at e (gt s st e) (Token (kind "OPINFIX0c") (i + 1) to (Greater (i + 1) to))
     gt-rules {to} q =
         let w : to ≤ length s = cut-within (i + 1) (omega arith) q in

@@ -1,4 +1,4 @@
--- Where what is read on from behind a choice begins. Rests on the laws of where a reader stands.
+-- Where what is read on from after a choice begins. Rests on the laws of where a reader stands.
 use Prim.Native.Nat.{ℕ, _+_, _≤_}
 use native.Mathlib.Omega.{arith}
 use mathlib.Core.Path.{_≡_, refl, ap, subst, _∙_}
@@ -23,7 +23,7 @@ use Rattle.reader.specs.Cursors.{moved}
 use Rattle.reader.specs.declared.Cursor.{Cursor}
 use Rattle.reader.specs.declared.Read.{Read}
 use Rattle.reader.proofs.Standing.{known-kept, known-asked}
-use Rattle.read_comment.specs.LineCommentContracts.{Behind, ReadsAny}
+use Rattle.read_comment.specs.LineCommentContracts.{After, ReadsAny}
 use Rattle.read_comment.specs.CommentContracts.{InComment}
 use Rattle.read_string.specs.Contracts.{Reader}
 use Rattle.read_blob.specs.Contents.{header-of, InBlob}
@@ -33,9 +33,9 @@ use Rattle.reader.proofs.Spanning.{after-choice}
 use Rattle.rule_readers.specs.Names.{Names}
 
 module _ {s : Bytes} {at : Cursor} {e : ℕ} (h : Chose s at e) where
-  -- behind the choice a reader stands with what is known already
-  pub stands-behind : Standing s (advance (at .st) e) (at .known)
-  stands-behind = record { stands = after-choice h; cached = known-kept (at .st) (advance (at .st) e) refl refl (h .standing .cached) }
+  -- after the choice a reader stands with what is known already
+  pub stands-after : Standing s (advance (at .st) e) (at .known)
+  stands-after = record { stands = after-choice h; cached = known-kept (at .st) (advance (at .st) e) refl refl (h .standing .cached) }
 
   -- ---- comments
 
@@ -62,9 +62,9 @@ module _ {s : Bytes} {at : Cursor} {e : ℕ} (h : Chose s at e) where
   -- ---- line comments, literals and blobs
 
   module _ {place : Cursor} (q : place ≡ moved at e) where
-    -- a line's comment is read from behind its slashes on
-    pub behind-slashes : Behind s (at .st .offset) place
-    behind-slashes = rw q (record { standing = stands-behind; order = omega (arith, h .onward .past) })
+    -- a line's comment is read from after its slashes on
+    pub after-slashes : After s (at .st .offset) place
+    after-slashes = rw q (record { standing = stands-after; order = omega (arith, h .onward .past) })
 
     pub slashes-read : {r : Read} → ReadsAny s (source.line-comment s (lexeme s (at .st .offset) (place .st .offset)) (place .st)) r
         → ReadsAny s (source.line-comment s (lexeme s (at .st .offset) e) (advance (at .st) e)) r
@@ -72,7 +72,7 @@ module _ {s : Bytes} {at : Cursor} {e : ℕ} (h : Chose s at e) where
         subst (λ (b : Cursor). Reads s name f (source.line-comment s (lexeme s (at .st .offset) (b .st .offset)) (b .st)) r) q (d name f)
 
     pub before-literal : {f : Bytes} → class-check f ≡ 0 → Reader s f place
-    before-literal c = rw q (record { accepted = c; standing = stands-behind; between = h .between })
+    before-literal c = rw q (record { accepted = c; standing = stands-after; between = h .between })
 
     pub literal-reads : {name f : Bytes} {here : Located} {r : Read} → here ≡ located s (at .st) (at .st .offset)
         → Reads s name f (string-lit s f (place .st) (here .pos)) r → Reads s name f (string-lit s f (advance (at .st) e) (cur-pos s (at .st))) r
@@ -83,7 +83,7 @@ module _ {s : Bytes} {at : Cursor} {e : ℕ} (h : Chose s at e) where
       pub before-blob : InBlob s hd (place .st .offset) place
       before-blob =
           let named : hd .to ≤ length s = omega (arith, m .ends, h .onward .within) in
-          rw q (record { standing = stands-behind; between = h .between; begun = omega arith; named = named })
+          rw q (record { standing = stands-after; between = h .between; begun = omega arith; named = named })
 
       -- what is read with the blob-header is read with the definition's
       pub blob-reads : {name f : Bytes} {r : Read} (read : blob-source.Header → State → Step)

@@ -24,7 +24,7 @@ pub fn char_lit(text: &[u8], name: &[u8], at: Cursor, e: usize) -> Read
     let known = at.known;
     let start = pos_of(text, st, known, st.offset);
     let end = pos_of(text, st, start.known, e as u32);
-    let behind = st.advance(e as u32);
+    let after = st.advance(e as u32);
     let nothing = Payload::Part { from: 0, to: 0 };
     let c = unescape(text, st.offset as usize + 1);
     token(
@@ -34,7 +34,7 @@ pub fn char_lit(text: &[u8], name: &[u8], at: Cursor, e: usize) -> Read
         start.pos,
         end.pos,
         Extra::CharLit(c),
-        behind,
+        after,
         end.known,
     )
 }

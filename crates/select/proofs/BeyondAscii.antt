@@ -58,13 +58,13 @@ module _ (c : ℕ) (h : 128 ≤ c) where
 
 -- ---- what they find
 
--- A run behind one character that passes its test.
+-- A run after one character that passes its test.
 one-then : (t : Bool) (j : ℕ) (g : ℕ → ℕ) → (only t (To j) then λ e. To (g e)) ≡ only t (To (g j))
 one-then true j g = refl
 one-then false j g = refl
 
 module _ (s f : Bytes) (i c w : ℕ) (q : sequence-at s i ≡ Char c w) where
-  -- A run from the character on, of another test behind the first.
+  -- A run from the character on, of another test after the first.
   run : (p g : ℕ → Bool) → (one p s i then λ j. To (star g s j)) ≡ only (p c) (To (star g s (i + w)))
   run p g = ap (λ (m : Match). m then λ j. To (star g s j)) (one-read p s i c w q) ∙ one-then (p c) (i + w) (star g s)
 

@@ -26,7 +26,7 @@ use Rattle.laws_progress.proofs.Characters.{ascii-at}
 use Rattle.star.proofs.RunLaws.{ascii-byte}
 use Rattle.laws_longest.proofs.Starts.{all-pass, listed-passes}
 use Rattle.laws_longest.proofs.Places.{has-read}
-use Rattle.select_places.specs.Groups.{symbols-behind, name-behind}
+use Rattle.select_places.specs.Groups.{symbols-after, name-after}
 use Rattle.select.specs.Standing.{Ascii}
 use Rattle.select.proofs.First.{begins, among, select-among}
 
@@ -67,16 +67,16 @@ module _ {chars : List ℕ} {s : Bytes} {i : ℕ} (h : Stands chars s i) where
   one-passes p t = one-read p s i (h .code) 1 (h .read) ∙ ap (λ (b : Bool). only b (To (i + 1))) (passes p t)
 
   -- An operator goes on with symbol characters,
-  pub operator : (first : String) → all-pass (λ c. mem-cp c (codes first)) chars ≡ true → one-of-then-symbols s i first ≡ symbols-behind s i
+  pub operator : (first : String) → all-pass (λ c. mem-cp c (codes first)) chars ≡ true → one-of-then-symbols s i first ≡ symbols-after s i
   unfolding one-of-then-symbols
   operator first t = ap (λ (m : Match). m then λ e. To (star is-symbolchar s e)) (one-passes (λ c. mem-cp c (codes first)) t)
 
   -- and a name with identifier characters.
-  pub name : (f : Bytes) → all-pass is-ident-start chars ≡ true → match-ident s f i ≡ name-behind s f i
+  pub name : (f : Bytes) → all-pass is-ident-start chars ≡ true → match-ident s f i ≡ name-after s f i
   unfolding match-ident
   name f t = ap (λ (m : Match). m then λ j. To (star (is-ident-char f) s j)) (one-passes is-ident-start t)
 
-  pub capital-name : (f : Bytes) → all-pass (is-constructor-start f) chars ≡ true → match-constructor s f i ≡ name-behind s f i
+  pub capital-name : (f : Bytes) → all-pass (is-constructor-start f) chars ≡ true → match-constructor s f i ≡ name-after s f i
   unfolding match-constructor
   capital-name f t = ap (λ (m : Match). m then λ j. To (star (is-ident-char f) s j)) (one-passes (is-constructor-start f) t)
 

@@ -15,7 +15,7 @@ use matchers::quoted::match_char_lit;
 use select_places::alone;
 use select_places::first;
 use select_places::lit_then_ident;
-use select_places::name_behind;
+use select_places::name_after;
 use table_early::early_literal;
 use table_kw_op::kw_op;
 use table_op_tokens::op_token;
@@ -30,7 +30,7 @@ pub fn at_capital(text: &[u8], file: &[u8], i: usize) -> Choice
     requires { ⌜ (class-check (now file) ≡ 0) × (i < length (now text)) ⌝ }
     ensures { λ r. ⌜ r ≡ at-capital (now (text .entry)) (now (file .entry)) i ⌝ }
 {
-    alone(i, 15, name_behind(text, file, i))
+    alone(i, 15, name_after(text, file, i))
 }
 
 // A small letter with which only identifiers begin.
@@ -38,7 +38,7 @@ pub fn at_letter(text: &[u8], file: &[u8], i: usize) -> Choice
     requires { ⌜ (class-check (now file) ≡ 0) × (i < length (now text)) ⌝ }
     ensures { λ r. ⌜ r ≡ at-letter (now (text .entry)) (now (file .entry)) i ⌝ }
 {
-    alone(i, 14, name_behind(text, file, i))
+    alone(i, 14, name_after(text, file, i))
 }
 
 // An identifier, or an early literal.
@@ -47,7 +47,7 @@ pub fn at_early_letter(text: &[u8], file: &[u8], i: usize) -> Choice
     ensures { λ r. ⌜ r ≡ at-early-letter (now (text .entry)) (now (file .entry)) i ⌝ }
 {
     let best = first(i, early_literal(text, i));
-    try_place(best, i, 14, name_behind(text, file, i))
+    try_place(best, i, 14, name_after(text, file, i))
 }
 
 // An identifier, or a keyword with operator characters after it.
@@ -56,7 +56,7 @@ pub fn at_keyword_letter(text: &[u8], file: &[u8], ops: &[bool; 128], i: usize) 
     ensures { λ r. ⌜ r ≡ at-keyword-letter (now (text .entry)) (now (file .entry)) i ⌝ }
 {
     let best = first(i, kw_op(text, ops, i));
-    try_place(best, i, 14, name_behind(text, file, i))
+    try_place(best, i, 14, name_after(text, file, i))
 }
 
 // An identifier, or an operator token that begins with a letter.
@@ -75,7 +75,7 @@ pub fn at_underscore(text: &[u8], file: &[u8], i: usize) -> Choice
     let mut best = alone(i, 4, match_lit(text, b"__SOURCE_FILE__", i));
     best = try_place(best, i, 5, match_lit(text, b"__LINE__", i));
     best = try_place(best, i, 6, match_lit(text, b"__FILELINE__", i));
-    try_place(best, i, 14, name_behind(text, file, i))
+    try_place(best, i, 14, name_after(text, file, i))
 }
 
 // A character literal, with or without the B after it, or an identifier.
@@ -85,7 +85,7 @@ pub fn at_quote(text: &[u8], file: &[u8], i: usize) -> Choice
 {
     let mut best = alone(i, 9, match_char_lit(text, i, false));
     best = try_place(best, i, 10, match_char_lit(text, i, true));
-    try_place(best, i, 14, name_behind(text, file, i))
+    try_place(best, i, 14, name_after(text, file, i))
 }
 
 // The opening of a blob, a name in backticks, an early literal, or the backtick.

@@ -26,12 +26,12 @@ ghost use Rattle.definition.specs.Chars.{ascii-table, op-char-cps, symbolchar-c
 ghost use Rattle.definition.specs.Text.{star};
 ghost use Rattle.definition.specs.Matchers.{_then_, match-lit};
 ghost use Rattle.definition.specs.declared.Match.the-variants.{To};
-ghost use Rattle.select_places.specs.Groups.{symbols-behind, at-operator, at-token, at-token-operator, at-hash, at-percent, at-semicolon, at-paren, at-slash, at-less, at-bar, at-point, at-star};
+ghost use Rattle.select_places.specs.Groups.{symbols-after, at-operator, at-token, at-token-operator, at-hash, at-percent, at-semicolon, at-paren, at-slash, at-less, at-bar, at-point, at-star};
 
 // The end of the symbol characters after the first character of an operator.
-fn symbols_behind(text: &[u8], symbols: &[bool; 128], i: usize) -> Match
+fn symbols_after(text: &[u8], symbols: &[bool; 128], i: usize) -> Match
     requires { ⌜ (now symbols ≡ ascii-table symbolchar-cps) × (i < length (now text)) ⌝ }
-    ensures { λ r. ⌜ r ≡ symbols-behind (now (text .entry)) i ⌝ }
+    ensures { λ r. ⌜ r ≡ symbols-after (now (text .entry)) i ⌝ }
 {
     Match::To(star_symbolchar(text, symbols, i + 1))
 }
@@ -52,7 +52,7 @@ pub fn at_operator(text: &[u8], symbols: &[bool; 128], i: usize, place: u32) -> 
     requires { ⌜ (now symbols ≡ ascii-table symbolchar-cps) × (i < length (now text)) ⌝ }
     ensures { λ r. ⌜ r ≡ at-operator (now (text .entry)) i place ⌝ }
 {
-    alone(i, place, symbols_behind(text, symbols, i))
+    alone(i, place, symbols_after(text, symbols, i))
 }
 
 // An operator token alone.
@@ -68,7 +68,7 @@ pub fn at_token_operator(text: &[u8], symbols: &[bool; 128], i: usize, place: u3
     ensures { λ r. ⌜ r ≡ at-token-operator (now (text .entry)) i place ⌝ }
 {
     let best = at_token(text, i);
-    try_place(best, i, place, symbols_behind(text, symbols, i))
+    try_place(best, i, place, symbols_after(text, symbols, i))
 }
 
 // A pragma, `#lang-` with an identifier, or the token.
@@ -88,7 +88,7 @@ pub fn at_percent(text: &[u8], symbols: &[bool; 128], i: usize) -> Choice
 {
     let mut best = first(i, early_literal(text, i));
     best = keep(best, op_token(text, i));
-    try_place(best, i, 48, symbols_behind(text, symbols, i))
+    try_place(best, i, 48, symbols_after(text, symbols, i))
 }
 
 // A semicolon with operator characters after it, two, or one.
@@ -117,7 +117,7 @@ pub fn at_slash(text: &[u8], symbols: &[bool; 128], i: usize) -> Choice
     let mut best = alone(i, 29, match_lit(text, b"// IN F*:", i));
     best = try_place(best, i, 30, match_lit(text, b"//", i));
     best = keep(best, op_token(text, i));
-    try_place(best, i, 48, symbols_behind(text, symbols, i))
+    try_place(best, i, 48, symbols_after(text, symbols, i))
 }
 
 // The pipe `<|`, a token, `<` by itself, or symbol characters.
@@ -128,7 +128,7 @@ pub fn at_less(text: &[u8], symbols: &[bool; 128], i: usize) -> Choice
     let mut best = alone(i, 33, match_lit(text, b"<|", i));
     best = keep(best, op_token(text, i));
     best = try_place(best, i, 37, Match::To(i + 1));
-    try_place(best, i, 44, symbols_behind(text, symbols, i))
+    try_place(best, i, 44, symbols_after(text, symbols, i))
 }
 
 // The pipe `|>`, a token, `|->` with symbol characters, or those alone.
@@ -139,7 +139,7 @@ pub fn at_bar(text: &[u8], symbols: &[bool; 128], i: usize) -> Choice
     let mut best = alone(i, 34, match_lit(text, b"|>", i));
     best = keep(best, op_token(text, i));
     best = try_place(best, i, 40, lit_then_symbols(text, symbols, b"|->", i));
-    try_place(best, i, 42, symbols_behind(text, symbols, i))
+    try_place(best, i, 42, symbols_after(text, symbols, i))
 }
 
 // Two points, a token, or a mixfix word.
@@ -157,5 +157,5 @@ pub fn at_star(text: &[u8], symbols: &[bool; 128], i: usize) -> Choice
     ensures { λ r. ⌜ r ≡ at-star (now (text .entry)) i ⌝ }
 {
     let best = alone(i, 39, lit_then_symbols(text, symbols, b"**", i));
-    try_place(best, i, 48, symbols_behind(text, symbols, i))
+    try_place(best, i, 48, symbols_after(text, symbols, i))
 }

@@ -15,7 +15,7 @@ kept h x y = h ∙ ap₂ keep x y
 pub placed : (i k : ℕ) {b b′ r : Choice} {m m′ : Match} → r ≡ keep b (found i k 0 m) → b ≡ b′ → m ≡ m′ → r ≡ keep b′ (found i k 0 m′)
 placed i k h x y = h ∙ ap₂ (λ (c : Choice) (n : Match). keep c (found i k 0 n)) x y
 
--- What stands behind a word that was found,
+-- What stands after a word that was found,
 pub then-yes : {m r : Match} {e : ℕ} (g : ℕ → Match) → m ≡ To e → r ≡ g e → r ≡ (m then g)
 then-yes g h q = q ∙ ap (λ (n : Match). n then g) (sym h)
 

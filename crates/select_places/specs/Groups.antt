@@ -43,9 +43,9 @@ token s i = try-words i 36 (λ w. match-lit s w i) 0 (words-of op-tokens) (none-
 abbrev pub mixfix : Bytes → ℕ → Choice
 mixfix s i = try-words i 50 (λ w. match-lit s w i) 0 (words-of mixfix-rules) (none-at i)
 
--- the character at i and the symbol characters behind it
-abbrev pub symbols-behind : Bytes → ℕ → Match
-symbols-behind s i = To (star is-symbolchar s (i + 1))
+-- the character at i and the symbol characters after it
+abbrev pub symbols-after : Bytes → ℕ → Match
+symbols-after s i = To (star is-symbolchar s (i + 1))
 
 -- the first choice that is tried, and that of a place
 abbrev pub first : ℕ → Choice → Choice
@@ -59,27 +59,27 @@ infixl 2 _or_
 abbrev pub _or_ : Choice → Choice → Choice
 best or new = keep best new
 
--- the character at i and the identifier characters behind it
-abbrev pub name-behind : Bytes → Bytes → ℕ → Match
-name-behind s f i = To (star (is-ident-char f) s (i + 1))
+-- the character at i and the identifier characters after it
+abbrev pub name-after : Bytes → Bytes → ℕ → Match
+name-after s f i = To (star (is-ident-char f) s (i + 1))
 
 -- ---- letters
 
 -- a capital letter
 abbrev pub at-capital : Bytes → Bytes → ℕ → Choice
-at-capital s f i = alone i 15 (name-behind s f i)
+at-capital s f i = alone i 15 (name-after s f i)
 
 -- a small letter with which only identifiers begin
 abbrev pub at-letter : Bytes → Bytes → ℕ → Choice
-at-letter s f i = alone i 14 (name-behind s f i)
+at-letter s f i = alone i 14 (name-after s f i)
 
 -- s
 abbrev pub at-early-letter : Bytes → Bytes → ℕ → Choice
-at-early-letter s f i = first i (early s i) or found i 14 0 (name-behind s f i)
+at-early-letter s f i = first i (early s i) or found i 14 0 (name-after s f i)
 
 -- a, e, f, i, l, m
 abbrev pub at-keyword-letter : Bytes → Bytes → ℕ → Choice
-at-keyword-letter s f i = first i (keyword s i) or found i 14 0 (name-behind s f i)
+at-keyword-letter s f i = first i (keyword s i) or found i 14 0 (name-after s f i)
 
 -- r, u
 abbrev pub at-token-letter : Bytes → Bytes → ℕ → Choice
@@ -91,7 +91,7 @@ at-underscore s f i =
     alone i 4 (match-lit s (cps "__SOURCE_FILE__") i)
     or found i 5 0 (match-lit s (cps "__LINE__") i)
     or found i 6 0 (match-lit s (cps "__FILELINE__") i)
-    or found i 14 0 (name-behind s f i)
+    or found i 14 0 (name-after s f i)
 
 -- ---- quotes
 
@@ -100,7 +100,7 @@ abbrev pub at-quote : Bytes → Bytes → ℕ → Choice
 at-quote s f i =
     alone i 9 (match-char-lit s i false)
     or found i 10 0 (match-char-lit s i true)
-    or found i 14 0 (name-behind s f i)
+    or found i 14 0 (name-after s f i)
 
 -- `
 abbrev pub at-backtick : Bytes → Bytes → ℕ → Choice
@@ -118,7 +118,7 @@ at-double-quote i = alone i 31 (To (i + 1))
 
 -- symbol characters alone
 abbrev pub at-operator : Bytes → ℕ → ℕ → Choice
-at-operator s i place = alone i place (symbols-behind s i)
+at-operator s i place = alone i place (symbols-after s i)
 
 -- an operator token alone
 abbrev pub at-token : Bytes → ℕ → Choice
@@ -126,7 +126,7 @@ at-token s i = first i (token s i)
 
 -- an operator token, or symbol characters
 abbrev pub at-token-operator : Bytes → ℕ → ℕ → Choice
-at-token-operator s i place = at-token s i or found i place 0 (symbols-behind s i)
+at-token-operator s i place = at-token s i or found i place 0 (symbols-after s i)
 
 -- #
 abbrev pub at-hash : Bytes → Bytes → ℕ → Choice
@@ -134,7 +134,7 @@ at-hash s f i = first i (early s i) or found i 3 0 (match-lit s (cps "#lang-") i
 
 -- %
 abbrev pub at-percent : Bytes → ℕ → Choice
-at-percent s i = first i (early s i) or token s i or found i 48 0 (symbols-behind s i)
+at-percent s i = first i (early s i) or token s i or found i 48 0 (symbols-after s i)
 
 -- ;
 abbrev pub at-semicolon : Bytes → ℕ → Choice
@@ -150,7 +150,7 @@ at-slash s i =
     alone i 29 (match-lit s (cps "// IN F*:") i)
     or found i 30 0 (match-lit s (cps "//") i)
     or token s i
-    or found i 48 0 (symbols-behind s i)
+    or found i 48 0 (symbols-after s i)
 
 -- <
 abbrev pub at-less : Bytes → ℕ → Choice
@@ -158,7 +158,7 @@ at-less s i =
     alone i 33 (match-lit s (cps "<|") i)
     or token s i
     or found i 37 0 (To (i + 1))
-    or found i 44 0 (symbols-behind s i)
+    or found i 44 0 (symbols-after s i)
 
 -- |
 abbrev pub at-bar : Bytes → ℕ → Choice
@@ -166,7 +166,7 @@ at-bar s i =
     alone i 34 (match-lit s (cps "|>") i)
     or token s i
     or found i 40 0 (lit-then-symbols s i "|->")
-    or found i 42 0 (symbols-behind s i)
+    or found i 42 0 (symbols-after s i)
 
 -- .
 abbrev pub at-point : Bytes → ℕ → Choice
@@ -174,7 +174,7 @@ at-point s i = alone i 35 (match-lit s (cps "..") i) or token s i or mixfix s i
 
 -- *
 abbrev pub at-star : Bytes → ℕ → Choice
-at-star s i = alone i 39 (lit-then-symbols s i "**") or found i 48 0 (symbols-behind s i)
+at-star s i = alone i 39 (lit-then-symbols s i "**") or found i 48 0 (symbols-after s i)
 
 -- ---- numbers
 

@@ -24,7 +24,7 @@ ghost use Rattle.definition.specs.ClassFile.{class-check};
 ghost use Rattle.definition.specs.Chars.{is-anywhite};
 ghost use Rattle.definition.specs.Matchers.{_then_, plus, match-lit, match-ident, match-newline};
 ghost use Rattle.definition.specs.Select.{found};
-ghost use Rattle.select_places.specs.Groups.{first, alone, name-behind};
+ghost use Rattle.select_places.specs.Groups.{first, alone, name-after};
 
 // The source's `try_` for the first place that is tried.
 pub fn alone(i: usize, place: u32, m: Match) -> Choice
@@ -41,9 +41,9 @@ pub fn first(i: usize, new: Choice) -> Choice
 }
 
 // The end of the identifier characters after the first character of a name.
-pub fn name_behind(text: &[u8], file: &[u8], i: usize) -> Match
+pub fn name_after(text: &[u8], file: &[u8], i: usize) -> Match
     requires { ⌜ (class-check (now file) ≡ 0) × (i < length (now text)) ⌝ }
-    ensures { λ r. ⌜ r ≡ name-behind (now (text .entry)) (now (file .entry)) i ⌝ }
+    ensures { λ r. ⌜ r ≡ name-after (now (text .entry)) (now (file .entry)) i ⌝ }
 {
     Match::To(star_ident_char(text, file, i + 1))
 }

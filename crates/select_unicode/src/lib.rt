@@ -28,7 +28,7 @@ ghost use Rattle.definition.specs.declared.Match.the-variants.{To};
 ghost use Rattle.select_places.specs.Groups.{quantified, at-beyond-ascii};
 
 // The end of white space after a character c.
-fn white_behind(text: &[u8], file: &[u8], c: u32, j: usize) -> Match
+fn white_after(text: &[u8], file: &[u8], c: u32, j: usize) -> Match
     requires { ⌜ class-check (now file) ≡ 0 ⌝ }
     ensures { λ r. ⌜ r ≡ only (is-anywhite (now (file .entry)) c) (To (star (is-anywhite (now (file .entry))) (now (text .entry)) j)) ⌝ }
 {
@@ -49,7 +49,7 @@ fn line_end(c: u32, j: usize) -> Match
 }
 
 // The end of an identifier whose first character is c. What follows is decoded at once: it is mostly beyond ASCII too.
-fn ident_behind(text: &[u8], file: &[u8], c: u32, j: usize) -> Match
+fn ident_after(text: &[u8], file: &[u8], c: u32, j: usize) -> Match
     requires { ⌜ class-check (now file) ≡ 0 ⌝ }
     ensures { λ r. ⌜ r ≡ only (is-ident-start c) (To (star (is-ident-char (now (file .entry))) (now (text .entry)) j)) ⌝ }
 {
@@ -60,7 +60,7 @@ fn ident_behind(text: &[u8], file: &[u8], c: u32, j: usize) -> Match
 }
 
 // The end of a constructor whose first character is c.
-fn constructor_behind(text: &[u8], file: &[u8], c: u32, j: usize) -> Match
+fn constructor_after(text: &[u8], file: &[u8], c: u32, j: usize) -> Match
     requires { ⌜ class-check (now file) ≡ 0 ⌝ }
     ensures { λ r. ⌜ r ≡ only (is-constructor-start (now (file .entry)) c) (To (star (is-ident-char (now (file .entry))) (now (text .entry)) j)) ⌝ }
 {
@@ -107,10 +107,10 @@ pub fn at_beyond_ascii(
     requires { ⌜ (class-check (now file) ≡ 0) × (now ops ≡ ascii-table op-char-cps) ⌝ }
     ensures { λ r. ⌜ r ≡ at-beyond-ascii (now (text .entry)) (now (file .entry)) i c j ⌝ }
 {
-    let mut best = alone(i, 7, white_behind(text, file, c, j));
+    let mut best = alone(i, 7, white_after(text, file, c, j));
     best = try_place(best, i, 8, line_end(c, j));
     best = keep(best, quantifier(text, ops, i, c));
-    best = try_place(best, i, 14, ident_behind(text, file, c, j));
-    best = try_place(best, i, 15, constructor_behind(text, file, c, j));
+    best = try_place(best, i, 14, ident_after(text, file, c, j));
+    best = try_place(best, i, 15, constructor_after(text, file, c, j));
     try_place(best, i, 49, uoperator(file, c, j))
 }

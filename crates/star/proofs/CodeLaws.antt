@@ -61,7 +61,7 @@ byte-inside p s j is e = has-inside p s j (sym is ∙ e)
 
 -- By bytes, over a test that only ASCII passes.
 module _ (p : ℕ → Bool) (small : Small p) (s : Bytes) (i j : ℕ) {t : Bool} (is : t ≡ byte-has p s j) (inv : Same-end p s i j) where
-  -- The loop goes on behind a byte that passes,
+  -- The loop goes on after a byte that passes,
   pub byte-turn : t ≡ true → Same-end p s i (j + 1)
   byte-turn e = sym (byte-on p small s j (sym is ∙ e)) ∙ inv
 
@@ -75,7 +75,7 @@ decoded-past p s j is e = run-past p s j (sym is ∙ e)
 
 -- Each character decoded.
 module _ (p : ℕ → Bool) (s : Bytes) (i j : ℕ) {m : Match} (is : m ≡ one p s j) where
-  -- The loop goes on behind a character that passes,
+  -- The loop goes on after a character that passes,
   pub decoded-turn : {k : ℕ} → m ≡ To k → Same-end p s i j → Same-end p s i k
   decoded-turn e inv = sym (run-on p s j (sym is ∙ e)) ∙ inv
 
@@ -86,7 +86,7 @@ module _ (p : ℕ → Bool) (s : Bytes) (i j : ℕ) {m : Match} (is : m ≡ one 
 -- By bytes, as far as they are ASCII: of ASCII, q passes what p does, and nothing else.
 module _ {p q : ℕ → Bool} (small : Small q) (agree : (c : ℕ) → c < 0x80 → p c ≡ q c) (s : Bytes) (i j : ℕ) {t : Bool} (is : t ≡ byte-has q s j)
     (inv : Same-end p s i j) where
-  -- The loop goes on behind a byte that passes,
+  -- The loop goes on after a byte that passes,
   pub ascii-turn : t ≡ true → Same-end p s i (j + 1)
   ascii-turn e = sym (ascii-on small agree s j (sym is ∙ e)) ∙ inv
 

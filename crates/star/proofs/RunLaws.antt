@@ -71,7 +71,7 @@ module _ (p : ℕ → Bool) (s : Bytes) (i : ℕ) where
 
   -- ---- runs, by one character
 
-  -- Either a character passes, and the run goes on behind it, or the run ends here.
+  -- Either a character passes, and the run goes on after it, or the run ends here.
   pub by-one : {X : Type 0}
       → ((k : ℕ) → one p s i ≡ To k → (i < k) × (k ≤ length s) → star p s i ≡ star p s k → X)
       → (one p s i ≡ Nothing → star p s i ≡ i → X)
@@ -86,7 +86,7 @@ module _ (p : ℕ → Bool) (s : Bytes) (i : ℕ) where
       go Bad e = stop (one-none (rw e tt)) (star-none p s i (rw e tt))
       go End e = stop (one-none (rw e tt)) (star-none p s i (rw e tt))
 
-  -- Behind a character that passes the run goes on.
+  -- After a character that passes the run goes on.
   pub run-on : {k : ℕ} → one p s i ≡ To k → star p s i ≡ star p s k
   run-on {k} e =
       by-one

@@ -39,7 +39,7 @@ line-stop s i = ap (λ (p : ℕ → Bool). star p s i) (fun-ext feed)
 
 -- ---- the offset after a character
 
--- Behind a character it is its end.
+-- After a character it is its end.
 pub after-char : (s : Bytes) (i : ℕ) {c w : ℕ} → sequence-at s i ≡ Char c w → i + w ≡ after s i
 unfolding after
 after-char s i {c} {w} e = sym (ap (λ (t : Sequence). with-char t i (λ c j. j) i) e)

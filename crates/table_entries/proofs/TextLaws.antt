@@ -1,4 +1,4 @@
--- Texts one behind the other: what stands behind a text's start is the text; and rules that hold of every number of a range. Rests on
+-- Texts one after the other: what stands after a text's start is the text; and rules that hold of every number of a range. Rests on
 -- the laws of lists.
 use Prim.Native.Nat.{ℕ, zero, suc, _+_, _≤_, _<_}
 use mathlib.Core.Path.{_≡_, sym, ap, _∙_}
@@ -25,7 +25,7 @@ text-within [] n k j h = absurd (not-suc-le-zero h)
 text-within (t ∷ ts) n zero j h = omega (arith, length-append t (joined ts))
 text-within (t ∷ ts) n (suc k) j h = omega (arith, text-within ts (n + length t) k j h, length-append t (joined ts))
 
--- byte j of text k stands j bytes behind its start
+-- byte j of text k stands j bytes after its start
 pub text-at : (ts : List Bytes) (b : Bytes) (k j : ℕ) → j < length (getD ts k []) → getD (b ++ joined ts) (getD (starts (length b) ts) k 0 + j) 0 ≡ getD (getD ts k []) j 0
 text-at [] b k j h = absurd (not-suc-le-zero h)
 text-at (t ∷ ts) b zero j h = getD-append-add b (t ++ joined ts) j 0 ∙ List·getD-append t (joined ts) 0 j h

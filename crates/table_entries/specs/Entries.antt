@@ -1,4 +1,4 @@
--- The entries of the tables by which a word decides its token, one table behind the other, and the texts of their tokens.
+-- The entries of the tables by which a word decides its token, one table after the other, and the texts of their tokens.
 use Prim.Native.Nat.{ℕ, _+_}
 use lib.ListN.{length}
 use mathlib.Core.List.{List, [], _∷_, _++_, map}

@@ -158,7 +158,7 @@ up-to-at b [] e k = omega arith
 up-to-at b (x ∷ l) e zero = leb-true x b (both (leb x b) (all-up-to b l) e .0)
 up-to-at b (x ∷ l) e (suc k) = up-to-at b l (both (leb x b) (all-up-to b l) e .1) k
 
--- behind each word, the next one with its key, the first word being numbered n
+-- after each word, the next one with its key, the first word being numbered n
 unfoldable pub nexts : ℕ → List Bytes → List ℕ
 nexts n [] = []
 nexts n (w ∷ l) = hop (key w) (suc n) l ∷ nexts (suc n) l

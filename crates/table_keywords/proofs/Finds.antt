@@ -17,7 +17,7 @@ abbrev pub entry-at : ℕ → List Entry → Word → Option Entry
 entry-at n table (At w) = some (entry table (w - n))
 entry-at n table Nowhere = none
 
--- A place is not before the first word, so that it is one of the table behind the first entry where it is not the first.
+-- A place is not before the first word, so that it is one of the table after the first entry where it is not the first.
 later-entry : (n : ℕ) (id : Bytes) (e : Entry) (table : List Entry)
     → entry-at (suc n) table (place (suc n) id (spelled table)) ≡ entry-at n (e ∷ table) (place (suc n) id (spelled table))
 unfolding place

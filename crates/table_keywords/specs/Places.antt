@@ -19,7 +19,7 @@ place n id (w ∷ ws) = elim (same w id) [ true ↦ At n | false ↦ place (suc 
 unfoldable pub key : Bytes → ℕ
 key w = (getD w 0 0 + getD w (length w - 1) 0 + length w % 64) % 64
 
--- the number of the first word with a key, the first of the list being numbered n; the number behind the last where there is none
+-- the number of the first word with a key, the first of the list being numbered n; the number after the last where there is none
 unfoldable pub hop : ℕ → ℕ → List Bytes → ℕ
 hop h n [] = n
 hop h n (w ∷ ws) = elim (eqb (key w) h) [ true ↦ n | false ↦ hop h (suc n) ws ]

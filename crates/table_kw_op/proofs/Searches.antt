@@ -1,5 +1,5 @@
 -- What the code's searches find is what trying every word of the definition's table gives: nothing where a keyword operator's word would have
--- no operator character behind it, and the first keyword operator that fits. Rests on the laws of rows and of runs, and on what is computed.
+-- no operator character after it, and the first keyword operator that fits. Rests on the laws of rows and of runs, and on what is computed.
 use Prim.Native.Nat.{ℕ, _+_, _≤_, _<_}
 use mathlib.Core.Path.{_≡_, sym, ap, _∙_}
 use mathlib.Core.Logic.{_≢_}
@@ -44,11 +44,11 @@ use Rattle.table_kw_op.specs.KeywordReach.{Reach}
 use Rattle.table_kw_op.proofs.Computed.{kw-ops, kw-long, kw-count, kw-entries, kw-apart}
 
 module _ (s : Bytes) (i : ℕ) where
-  -- a word and operator characters behind it
+  -- a word and operator characters after it
   abbrev kw-match : Bytes → Match
   kw-match w = match-lit s w i then plus is-op-char s
 
-  -- A word that isn't there has no operator characters behind it.
+  -- A word that isn't there has no operator characters after it.
   kw-nothing : (w : Bytes) → match-lit s w i ≡ Nothing → kw-match w ≡ Nothing
   kw-nothing w e = ap (λ (m : Match). m then plus is-op-char s) e
 
@@ -72,7 +72,7 @@ module _ (s : Bytes) (i : ℕ) where
         ∙ rows-left i 12 kw-match (λ r. touches (word-at kw-ops k) (r .1)) (λ r t. kw-nothing (r .1) (apart s (word-at kw-ops k) (r .1) i kw-there t)) kw-ops (none-at i) (omega arith)
         ∙ ap (λ (rs : List Row). try-rows i 12 kw-match rs (none-at i)) (kw-apart k h)
 
-    -- Without operator characters behind it nothing is chosen.
+    -- Without operator characters after it nothing is chosen.
     pub kw-no : {n : ℕ} → n ≡ length (word-at kw-ops k) → plus is-op-char s (i + n) ≡ Nothing → kw-choice ≡ none-at i
     kw-no q p = kw-alone ∙ row-missing i 12 kw-match (getD kw-ops k no-row) (rw kw-there (rw (← q) p))
 
@@ -95,7 +95,7 @@ module _ (s : Bytes) (i : ℕ) where
   pub kw-reach-none : {n : ℕ} → i < length s → Reach (getD s i 0) n → n ≢ 0 → byte-has is-op-char s (i + n) ≡ false → kw-choice ≡ none-at i
   kw-reach-none {n} h r z e = all-left i 12 kw-match (λ r. starts-with (getD s i 0) (r .1) && not (eqb (length (r .1)) n)) (λ r. missing (r .1)) kw-op-words (r .each z)
     where
-      -- A word of n bytes has no operator character behind it,
+      -- A word of n bytes has no operator character after it,
       short : (w : Bytes) → length w ≡ n → kw-match w ≡ Nothing
       short w q =
           by-found (match-lit s w i)

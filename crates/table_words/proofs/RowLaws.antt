@@ -56,7 +56,7 @@ module _ (i place : ℕ) (m : Bytes → Match) where
   keep-none best w e h = rw (e, le-ltb (best .end) i h)
 
   module _ (rs : List Row) (k to : ℕ) (best : Choice) (h : k < to) (l : to ≤ length rs) where
-    -- Row k is tried before those behind it.
+    -- Row k is tried before those after it.
     row-first : try-rows i place m (slice k to rs) best ≡ try-rows i place m (slice (k + 1) to rs) (keep best (found i place (getD rs k no-row .0) (m (word-at rs k))))
     unfolding try-rows
     row-first = rw (slice-cons k to rs no-row h l, add-one k)
@@ -72,7 +72,7 @@ module _ (i place : ℕ) (m : Bytes → Match) where
         let f : keep best (found i place (getD rs k no-row .0) (m (word-at rs k))) ≡ keep best (record { place = place; end = e; word = n }) = rw (q, z) in
         ap (try-rows i place m (slice (k + 1) to rs)) (t ∙ sym f) ∙ sym row-first
 
-  -- Behind the last row the best is the answer.
+  -- After the last row the best is the answer.
   pub row-done : (rs : List Row) (k to : ℕ) (best : Choice) → to ≤ k → try-rows i place m (slice k to rs) best ≡ best
   unfolding try-rows
   row-done rs k to best h =
@@ -211,7 +211,7 @@ module _ (s : Bytes) where
       let no : byte-is c s i ≡ false = rw same n in
       rw (no, match-lit)
 
-  -- A word ends as far behind its start as it is long.
+  -- A word ends as far after its start as it is long.
   pub lit-end : (w : Bytes) (i : ℕ) {e : ℕ} → match-lit s w i ≡ To e → e ≡ i + length w
   unfolding match-lit
   lit-end [] i {e} q = let z : i ≡ e = cc in omega arith
@@ -257,7 +257,7 @@ module _ (s : Bytes) where
     unfolding first-fit
     fit-next rs k h q = rw (drop-cons rs k no-row h, add-one k) (rw (q, first-fit))
 
-    -- Behind the last row none is left.
+    -- After the last row none is left.
     fit-done : (rs : List Row) (k : ℕ) → length rs ≤ k → first-fit s i (drop k rs) ≡ 0
     unfolding first-fit
     fit-done rs k h = rw (drop-of-length-le rs {i = k} h)
@@ -276,7 +276,7 @@ module _ (s : Bytes) where
           let at : k + first-fit s i (drop k rs) ≡ first-fit s i rs = rw z inv in
           omega (arith, at, fit-here rs k h q)
 
-      -- and behind the last word too.
+      -- and after the last word too.
       pub none-left : length rs ≤ k → k + first-fit s i (drop k rs) ≡ first-fit s i rs → k ≡ first-fit s i rs
       none-left h inv = omega (arith, inv, fit-done rs k h)
 

@@ -84,7 +84,7 @@ pub compare-start : (rs : List Row) (s : Bytes) {i k n : ℕ} → k < length rs 
 compare-start rs s h e = record { row = h; count = e; rest = refl }
 
 module _ (width : ℕ) (rs : List Row) (short : all-short width rs ≡ true) (s : Bytes) {i k n end j : ℕ} (c : Comparing rs s i k n end j) where
-  -- Behind its last byte the word is there.
+  -- After its last byte the word is there.
   pub compared : n ≤ j → match-lit s (word-at rs k) i ≡ To end
   compared h = sym (c .rest) ∙ lit-done s (word-at rs k) j end (omega (arith, c .count))
 

@@ -20,7 +20,7 @@ module _ (s : Bytes) (width left at to : ℕ) (within : to ≤ length s) where
       ≡ one-if (keeps left (getD s at 0)) + length (kept width (left-after width left (getD s at 0)) (piece s (at + 1) to))
   piece-count h = rw (piece-cons at to s h within) (kept-count width left (getD s at 0) (piece s (at + 1) to))
 
-  -- Behind it, of the last two bytes those stay that their line doesn't lose.
+  -- After it, of the last two bytes those stay that their line doesn't lose.
   piece-rest : to ≤ at → length (kept width left (piece s at to)) ≡ 2 - left
   unfolding kept
   piece-rest h = ap (λ (l : Bytes). length (kept width left l)) (piece-past at to s h within) ∙ mark-count left

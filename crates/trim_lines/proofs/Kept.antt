@@ -47,7 +47,7 @@ module _ (width : ℕ) where
   unfolding kept keeps left-after
   kept-more b l e = simp (e, kept, keeps, left-after)
 
-  -- A byte stays in front of what stays behind it.
+  -- A byte stays in front of what stays after it.
   pub kept-stays : (left b : ℕ) (l : Bytes) → keeps left b ≡ true → kept width left (b ∷ l) ≡ b ∷ kept width (left-after width left b) l
   unfolding kept
   kept-stays left b l e = simp (e, kept)

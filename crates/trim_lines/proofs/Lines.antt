@@ -73,7 +73,7 @@ module _ (width : ℕ) where
   onto-lost left b [] h = let z = ap length (h .is) in absurd (omega arith)
   onto-lost left b (l ∷ ls) h = refl
 
-  -- behind a line end
+  -- after a line end
   ends : (left b : ℕ) (l : Bytes) → eqb b (ch "\n") ≡ true → join-lines (cut width width (split-lines l)) ≡ kept width width l
       → join-lines (cut width left ([] ∷ split-lines l)) ≡ kept width left (b ∷ l)
   ends left b l e ih =
@@ -84,7 +84,7 @@ module _ (width : ℕ) where
       ∙ ap₂ (λ (x : ℕ) (m : Bytes). x ∷ m) (sym q) (ap join-lines (sym c) ∙ ih)
       ∙ sym (kept-newline width left b l e)
 
-  -- behind any other byte
+  -- after any other byte
   goes-on : (left b : ℕ) (l : Bytes) → eqb b (ch "\n") ≡ false → ((d : ℕ) → join-lines (cut width d (split-lines l)) ≡ kept width d l)
       → join-lines (cut width left (onto-first b (split-lines l))) ≡ kept width left (b ∷ l)
   goes-on zero b l e ih = onto-kept b (split-lines l) (some-line l) ∙ ap (λ (m : Bytes). b ∷ m) (ih 0) ∙ sym (kept-more width b l e)

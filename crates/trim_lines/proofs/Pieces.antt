@@ -20,7 +20,7 @@ none-left (b ∷ l) h = absurd (omega arith)
 slice-past : (at to : ℕ) (s : Bytes) → to ≤ at → to ≤ length s → slice at to s ≡ []
 slice-past at to s h k = none-left (slice at to s) (omega (arith, length-slice at to s k))
 
--- What is added behind a part, byte by byte.
+-- What is added after a part, byte by byte.
 mark-bytes : cps "*)" ≡ ch "*" ∷ ch ")" ∷ []
 unfolding cps encode-all encode
 mark-bytes = refl

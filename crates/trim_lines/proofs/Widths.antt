@@ -26,7 +26,7 @@ module _ (k i b : ℕ) (l : Bytes) where
   unfolding empty-prefix
   prefix-other h q = simp (tests, q, empty-prefix)
 
--- Where more spaces are behind than the width, the line leaves the width.
+-- Where more spaces are after than the width, the line leaves the width.
 prefix-decided : (k i : ℕ) (l : Bytes) → k < i → empty-prefix k i l ≡ k
 unfolding empty-prefix
 prefix-decided k i [] h = refl
@@ -103,7 +103,7 @@ lines-onto m b ls e = go ls
     go [] = first [] []
     go (l ∷ ls) = first l ls
 
--- A first line with no spaces behind is one of the lines.
+-- A first line with no spaces after is one of the lines.
 lines-all : (k : ℕ) (ls : List Bytes) → trim-width k ls ≡ lines-from (record { width = k; spaces = 0 }) ls
 unfolding trim-width
 lines-all k [] = refl
@@ -162,7 +162,7 @@ mark-width m =
     ap (λ (n : Margin). narrow n (ch ")") .width) (narrow-other m (ch "*") refl h refl)
     ∙ ap (λ (n : Margin). n .width) (narrow-decided n (ch ")") refl (omega arith)) ∙ simp (tests, narrowest))
 
--- So they do behind the part of the text.
+-- So they do after the part of the text.
 width-end : (s : Bytes) (m : Margin) (at to : ℕ) → to ≤ at → to ≤ length s → width-of m (piece s at to) ≡ narrowest m
 width-end s m at to h k = ap (width-of m) (piece-past at to s h k) ∙ mark-width m
 

@@ -37,7 +37,7 @@ module _ {bs before : Bytes} {width : ℕ} where
     pub writing-fits : Fits left b n after
     writing-fits e = omega (arith, some-left e, w .copied .room, copied-length (w .copied))
 
-    -- Behind it there is a byte less to come.
+    -- After it there is a byte less to come.
     pub writing-on : {after′ : Bytes} {m d : ℕ} → Puts (keeps left b) b n after after′ m → d ≡ left-after width left b
         → Writing bs before width d coming m after′
     writing-on {after′} {m} {d} p q = rw q (by-outcome (keeps left b) stays goes)
@@ -71,6 +71,6 @@ module _ {bs before : Bytes} {width : ℕ} where
     pub writing-at : at < to → Writing bs before width left (getD s at 0 ∷ piece s (at + 1) to) n after
     writing-at h = rw (piece-cons at to s h k) at w
 
-    -- Behind it the two bytes of the piece's end do.
+    -- After it the two bytes of the piece's end do.
     pub writing-mark : to ≤ at → Writing bs before width left (ch "*" ∷ ch ")" ∷ []) n after
     writing-mark h = rw (piece-past at to s h k) at w

@@ -50,9 +50,9 @@ boundary-next {s} {i} {c} {w} b a = record {
   };
 }
 
--- ---- the bytes behind and between them
+-- ---- the bytes after and between them
 
--- What stands behind a boundary of legal bytes is the encoding of the characters that are read there.
+-- What stands after a boundary of legal bytes is the encoding of the characters that are read there.
 pub rest-is : {s : Bytes} {i : ℕ} → Legal s → Boundary s i → Rest s i (chars-from s i)
 rest-is {s} {i} l b =
     let r : Split (l .chars) (b .before .chars) (drop i s) =

@@ -49,7 +49,7 @@ three-bytes-of c h (inl p) = simp tests
 three-bytes-of c h (inr p) = let p₁ : 0xD800 ≤ c = omega arith in simp tests
 
 module _ (c : ℕ) (rest : Bytes) where
-  -- One byte, with any bytes behind it, is read as its code point and its width.
+  -- One byte, with any bytes after it, is read as its code point and its width.
   read-1 : c < 0x80 → sequence-at (c ∷ rest) 0 ≡ Char c 1
   unfolding sequence
   read-1 h = simp (tests, read-first)
@@ -95,7 +95,7 @@ module _ (c : ℕ) (rest : Bytes) where
       let e : (0xF0 + c / 262144 - 0xF0) * 262144 + c / 4096 % 64 * 4096 + c / 64 % 64 * 64 + c % 64 ≡ c = omega arith in
       simp (tests, read-first, tail-bits-of, e)
 
--- A scalar value's own bytes, with any bytes behind them, are read as it.
+-- A scalar value's own bytes, with any bytes after them, are read as it.
 pub read-encode : (c : ℕ) → Scalar c → (rest : Bytes) → sequence-at (encode c ++ rest) 0 ≡ Char c (length (encode c))
 read-encode c sc rest =
     by-size (λ l. sequence-at (l ++ rest) 0 ≡ Char c (length l)) c

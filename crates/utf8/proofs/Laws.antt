@@ -1,5 +1,5 @@
 -- The laws of a text, for every layer above to cite: decoding against encoding, legal texts and the first bad offset, the characters
--- behind an offset, boundaries, and runs. Rests on `definition`, on `lemmas` and on the files beside this one, which prove them.
+-- after an offset, boundaries, and runs. Rests on `definition`, on `lemmas` and on the files beside this one, which prove them.
 use Prim.Native.Nat.{ℕ, _+_, _≤_, _<_}
 use mathlib.Core.Path.{_≡_, refl, sym, ap, subst, _∙_}
 use mathlib.Core.Bool.{Bool, true, false}
@@ -30,7 +30,7 @@ use Rattle.utf8.proofs.Boundaries.{boundary-start, boundary-end, legal-
 pub read-is-written : (s : Bytes) (i c w : ℕ) → sequence-at s i ≡ Char c w ↔ CharAt s i c w
 read-is-written s i c w = (char-read, read-char)
 
--- A scalar value's bytes, with any bytes behind them, are read as it.
+-- A scalar value's bytes, with any bytes after them, are read as it.
 pub written-is-read : (c : ℕ) → Scalar c → (rest : Bytes) → sequence-at (encode c ++ rest) 0 ≡ Char c (length (encode c))
 written-is-read = read-encode
 
@@ -44,7 +44,7 @@ char-fits = char-within
 
 -- ---- the characters from an offset on
 
--- Behind a boundary of a legal text stands the encoding of the characters that are read there.
+-- After a boundary of a legal text stands the encoding of the characters that are read there.
 pub rest-encodes : {s : Bytes} {i : ℕ} → Legal s → Boundary s i → Rest s i (chars-from s i)
 rest-encodes = rest-is
 

@@ -107,7 +107,7 @@ pub encode-one : (c : ℕ) → encode-all (c ∷ []) ≡ encode c
 unfolding encode-all
 encode-one c = append-nil (encode c)
 
--- Scalar values and others behind them are scalar values.
+-- Scalar values and others after them are scalar values.
 pub scalars-append : (xs ys : List ℕ) → Scalars xs → Scalars ys → Scalars (xs ++ ys)
 scalars-append [] ys p q = q
 scalars-append (x ∷ xs) ys p q = (p .0, scalars-append xs ys (p .1) q)

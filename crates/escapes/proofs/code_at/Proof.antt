@@ -1,7 +1,7 @@
 -- The code point sees nothing but what stands at the offset.
 use mathlib.Core.Path.{sym, _∙_}
 use borrow.Author.Needs.{needs}
-use Rattle.escapes.proofs.Behind.{code-of}
+use Rattle.escapes.proofs.EscapeLaws.{code-of}
 use Rattle.escapes.proofs.code_at.Statement.{statement}
 use Rattle.escapes.proofs.code_at.Tie as tie
 

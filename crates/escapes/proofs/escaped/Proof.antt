@@ -2,7 +2,7 @@
 use mathlib.Core.Path.{sym, ap, _∙_}
 use borrow.Author.Needs.{needs}
 use Rattle.escapes.specs.Contracts.{escaped}
-use Rattle.escapes.proofs.Behind.{escaped-other}
+use Rattle.escapes.proofs.EscapeLaws.{escaped-other}
 use Rattle.escapes.proofs.escaped.Statement.{statement}
 use Rattle.escapes.proofs.escaped.Tie as tie
 

@@ -2,7 +2,7 @@
 use native.Mathlib.Omega.{arith}
 use mathlib.Core.Path.{sym, _∙_}
 use borrow.Author.Needs.{needs}
-use Rattle.escapes.proofs.Behind.{byte-read, unescape-past, unescape-plain, unescape-open, unescape-slash}
+use Rattle.escapes.proofs.EscapeLaws.{byte-read, unescape-past, unescape-plain, unescape-open, unescape-slash}
 use Rattle.escapes.proofs.unescape.Statement.{statement}
 use Rattle.escapes.proofs.unescape.Tie as tie
 

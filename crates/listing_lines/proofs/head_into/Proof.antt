@@ -1,4 +1,4 @@
--- The letter and the blank are stored, and the name stands behind them.
+-- The letter and the blank are stored, and the name stands after them.
 use native.Mathlib.Omega.{arith}
 use lib.ListN.{length-set, length-take, length-drop, getD}
 use Rattle.listing_lines.proofs.LineLaws.{name-size, wrote-length, head-wrote}

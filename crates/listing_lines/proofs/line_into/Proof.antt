@@ -1,4 +1,4 @@
--- The numbers stand behind the name, and the line feed behind them.
+-- The numbers stand after the name, and the line feed after them.
 use native.Mathlib.Omega.{arith}
 use lib.ListN.{length-set}
 use Rattle.listing_lines.proofs.LineLaws.{wrote-more, wrote-length, line-wrote}

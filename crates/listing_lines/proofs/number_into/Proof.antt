@@ -1,4 +1,4 @@
--- The blank is stored, and the digits stand behind it.
+-- The blank is stored, and the digits stand after it.
 use native.Mathlib.Omega.{arith}
 use lib.ListN.{length-set, length-take, length-drop}
 use Rattle.listing_lines.proofs.LineLaws.{word-size, wrote-length, number-wrote}

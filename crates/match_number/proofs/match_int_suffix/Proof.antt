@@ -1,4 +1,4 @@
--- `match_int_suffix` is the definition's `match-int-suffix`: a suffix behind either end.
+-- `match_int_suffix` is the definition's `match-int-suffix`: a suffix after either end.
 use mathlib.Core.Path.{_∙_}
 use Rattle.match_number.proofs.IntegerLaws.{ends-of, suffix-is}
 use borrow.Author.Needs.{needs}

@@ -1,4 +1,4 @@
--- `match_int_usuffix` is the definition's `match-int-usuffix`: u and a suffix behind either end.
+-- `match_int_usuffix` is the definition's `match-int-usuffix`: u and a suffix after either end.
 use mathlib.Core.Path.{_∙_}
 use Rattle.match_number.proofs.IntegerLaws.{ends-of, usuffix-is}
 use borrow.Author.Needs.{needs}

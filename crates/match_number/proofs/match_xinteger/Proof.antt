@@ -1,4 +1,4 @@
--- `match_xinteger` is the definition's `match-xinteger`: behind the 0 the letter decides.
+-- `match_xinteger` is the definition's `match-xinteger`: after the 0 the letter decides.
 use mathlib.Core.Path.{sym, _∙_}
 use borrow.Author.Tests.{not-true, not-false}
 use Rattle.definition.specs.Matchers.{match-xinteger}

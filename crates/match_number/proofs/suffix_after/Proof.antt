@@ -1,4 +1,4 @@
--- `suffix_after` is the later of what is found behind each end.
+-- `suffix_after` is the later of what is found after each end.
 use Rattle.match_number.proofs.IntegerLaws.{later-of}
 use borrow.Author.Needs.{needs}
 use Rattle.match_number.proofs.suffix_after.Statement.{statement}

@@ -1,4 +1,4 @@
--- `usuffix_after` is the later of what is found behind each end.
+-- `usuffix_after` is the later of what is found after each end.
 use Rattle.match_number.proofs.IntegerLaws.{later-of}
 use borrow.Author.Needs.{needs}
 use Rattle.match_number.proofs.usuffix_after.Statement.{statement}

@@ -1,4 +1,4 @@
--- `match_constructor` is the definition's `match-constructor`: a character that may begin a constructor, and the run behind it.
+-- `match_constructor` is the definition's `match-constructor`: a character that may begin a constructor, and the run after it.
 use mathlib.Core.Path.{sym, _∙_}
 use Rattle.definition.specs.Matchers.{match-constructor}
 use Rattle.utf8.proofs.Character.{decoded-within}

@@ -1,4 +1,4 @@
--- `match_ident` is the definition's `match-ident`: a character that may begin an identifier, and the run behind it.
+-- `match_ident` is the definition's `match-ident`: a character that may begin an identifier, and the run after it.
 use mathlib.Core.Path.{sym, _∙_}
 use Rattle.definition.specs.Matchers.{match-ident}
 use Rattle.utf8.proofs.Character.{decoded-within}

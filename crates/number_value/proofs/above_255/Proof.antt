@@ -1,4 +1,4 @@
--- Each return is one way of reading a number: none, decimal digits, a 0 alone, decimal digits behind a 0, and those of a base.
+-- Each return is one way of reading a number: none, decimal digits, a 0 alone, decimal digits after a 0, and those of a base.
 use borrow.Author.Needs.{needs}
 use mathlib.Core.Path.{sym, ap, _∙_}
 use lib.Dec.{ltb}

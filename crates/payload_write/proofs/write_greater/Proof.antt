@@ -1,4 +1,4 @@
--- The part stands behind the first byte, which is written last.
+-- The part stands after the first byte, which is written last.
 use Rattle.payload_write.proofs.Parts.{in-front}
 use native.Mathlib.Omega.{arith}
 use borrow.Author.Needs.{needs}

@@ -1,4 +1,4 @@
--- The blob's positions are asked for one behind the other.
+-- The blob's positions are asked for one after the other.
 use Rattle.laws_run.proofs.Moving.{stands-within}
 use Rattle.reader.proofs.Standing.{asks, asks-here, stays}
 use Rattle.read_blob.proofs.ClosedLaws.{closed-reads}

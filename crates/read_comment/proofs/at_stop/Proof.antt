@@ -1,5 +1,5 @@
 -- `at_stop` is a turn of the definition's `comment` where no run stands. The line and the depth of a sound state fit, and so does the offset
--- behind a line end, which lies within the text.
+-- after a line end, which lies within the text.
 use mathlib.Core.Path.{sym, ap, _∙_}
 use native.Mathlib.Omega.{arith}
 use borrow.Author.Needs.{needs}

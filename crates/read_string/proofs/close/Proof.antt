@@ -1,4 +1,4 @@
--- The position behind the quote is asked for, and the contents are described.
+-- The position after the quote is asked for, and the contents are described.
 use Rattle.definition.specs.Kinds.{kind, kind-names, number-from}
 use Rattle.laws_run.proofs.Moving.{stands-within}
 use Rattle.reader.proofs.Standing.{asks}

@@ -1,4 +1,4 @@
--- The token begins behind the first byte, and its payload describes that byte too.
+-- The token begins after the first byte, and its payload describes that byte too.
 use Rattle.definition.specs.Kinds.{kind, kind-names, number-from}
 use Rattle.rule_operators.proofs.Cutting.{gt-rules}
 use borrow.Author.Needs.{needs}

@@ -1,4 +1,4 @@
--- What the cut leaves behind the word decides the kind.
+-- What the cut leaves after the word decides the kind.
 use Rattle.rule_operators.proofs.Cutting.{kw-op-short, kw-before-rules, kw-plain-rules}
 use native.Mathlib.Omega.{arith}
 use borrow.Author.Needs.{needs}

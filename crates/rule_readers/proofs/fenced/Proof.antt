@@ -1,4 +1,4 @@
--- The header is the definition's, with a name behind three bytes.
+-- The header is the definition's, with a name after three bytes.
 use Rattle.definition.specs.Blob.{blob}
 use Rattle.rule_readers.proofs.ReadOn.{before-blob, blob-reads}
 use borrow.Author.Needs.{needs}

@@ -1,4 +1,4 @@
--- The header's positions are asked for one behind the other.
+-- The header's positions are asked for one after the other.
 use Rattle.reader.proofs.Spanning.{end-asked}
 use Rattle.rule_readers.proofs.ReadOn.{header-names}
 use borrow.Author.Needs.{needs}

@@ -1,4 +1,4 @@
--- The header is the definition's, with a name behind six bytes.
+-- The header is the definition's, with a name after six bytes.
 use Rattle.definition.specs.Blob.{use-lang}
 use Rattle.rule_readers.proofs.ReadOn.{before-blob, blob-reads}
 use borrow.Author.Needs.{needs}

@@ -1,4 +1,4 @@
--- The literal is read from behind its quote, whose position is asked for before.
+-- The literal is read from after its quote, whose position is asked for before.
 use Rattle.rule_readers.proofs.ReadOn.{before-literal, literal-reads}
 use borrow.Author.Needs.{needs}
 use Rattle.rule_readers.proofs.literal.Statement.{statement}

@@ -10,7 +10,7 @@ returns c =
     let d = c .before .before in
     placed _ _ (c .try-place .ensures)
     (kept (d .first .ensures) refl (d .before .early-literal .ensures))
-    (c .before .name-behind .ensures)
+    (c .before .name-after .ensures)
 
 pub at-early-letter-spec : {M : Type 1} → statement M
 at-early-letter-spec =

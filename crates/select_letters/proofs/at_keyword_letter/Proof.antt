@@ -10,7 +10,7 @@ returns c =
     let d = c .before .before in
     placed _ _ (c .try-place .ensures)
     (kept (d .first .ensures) refl (d .before .kw-op .ensures))
-    (c .before .name-behind .ensures)
+    (c .before .name-after .ensures)
 
 pub at-keyword-letter-spec : {M : Type 1} → statement M
 at-keyword-letter-spec =

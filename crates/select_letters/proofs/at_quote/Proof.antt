@@ -13,7 +13,7 @@ returns c =
     (placed _ _ (d .try-place .ensures)
     (placed _ _ (e .alone .ensures) refl (e .before .match-char-lit .ensures))
     (d .before .match-char-lit2 .ensures))
-    (c .before .name-behind .ensures)
+    (c .before .name-after .ensures)
 
 pub at-quote-spec : {M : Type 1} → statement M
 at-quote-spec =

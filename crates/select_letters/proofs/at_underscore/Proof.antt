@@ -19,7 +19,7 @@ returns c =
     (placed _ _ (f .alone .ensures) refl (f .before .match-lit .ensures))
     (e .before .match-lit2 .ensures))
     (d .before .match-lit3 .ensures))
-    (c .before .name-behind .ensures)
+    (c .before .name-after .ensures)
 
 pub at-underscore-spec : {M : Type 1} → statement M
 at-underscore-spec =

@@ -1,4 +1,4 @@
--- `try_usuffix` is the better of the best so far and a suffix behind either end, with a u before it.
+-- `try_usuffix` is the better of the best so far and a suffix after either end, with a u before it.
 use mathlib.Core.Path.{refl, _∙_}
 use Rattle.select_places.proofs.Chains.{placed}
 use Rattle.match_number.proofs.IntegerLaws.{ends-of, usuffix-is}

@@ -20,7 +20,7 @@ returns c =
     (placed _ _ (f .alone .ensures) refl (f .before .match-lit .ensures))
     (e .before .op-token .ensures))
     (d .before .lit-then-symbols .ensures))
-    (c .before .symbols-behind .ensures)
+    (c .before .symbols-after .ensures)
 
 pub at-bar-spec : {M : Type 1} → statement M
 at-bar-spec =

@@ -19,7 +19,7 @@ returns c =
     (placed _ _ (f .alone .ensures) refl (f .before .match-lit .ensures))
     (e .before .op-token .ensures))
     refl)
-    (c .before .symbols-behind .ensures)
+    (c .before .symbols-after .ensures)
 
 pub at-less-spec : {M : Type 1} → statement M
 at-less-spec =

@@ -13,7 +13,7 @@ returns c =
     (kept (d .keep .ensures)
     (kept (e .first .ensures) refl (e .before .early-literal .ensures))
     (d .before .op-token .ensures))
-    (c .before .symbols-behind .ensures)
+    (c .before .symbols-after .ensures)
 
 pub at-percent-spec : {M : Type 1} → statement M
 at-percent-spec =

@@ -19,7 +19,7 @@ returns c =
     (placed _ _ (f .alone .ensures) refl (f .before .match-lit .ensures))
     (e .before .match-lit2 .ensures))
     (d .before .op-token .ensures))
-    (c .before .symbols-behind .ensures)
+    (c .before .symbols-after .ensures)
 
 pub at-slash-spec : {M : Type 1} → statement M
 at-slash-spec =

@@ -14,7 +14,7 @@ returns c =
     let d = c .before .before in
     placed _ _ (c .try-place .ensures)
     (placed _ _ (d .alone .ensures) refl (d .before .lit-then-symbols .ensures))
-    (c .before .symbols-behind .ensures)
+    (c .before .symbols-after .ensures)
 
 pub at-star-spec : {M : Type 1} → statement M
 at-star-spec =

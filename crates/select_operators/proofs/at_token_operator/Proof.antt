@@ -9,7 +9,7 @@ returns c =
     let d = c .before .before in
     placed _ _ (c .try-place .ensures)
     (d .at-token .ensures)
-    (c .before .symbols-behind .ensures)
+    (c .before .symbols-after .ensures)
 
 pub at-token-operator-spec : {M : Type 1} → statement M
 at-token-operator-spec =

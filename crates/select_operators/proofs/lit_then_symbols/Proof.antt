@@ -1,4 +1,4 @@
--- `lit_then_symbols` is a run of symbol characters behind a word.
+-- `lit_then_symbols` is a run of symbol characters after a word.
 use mathlib.Core.Path.{sym, ap, _∙_}
 use Rattle.select_places.proofs.Chains.{then-yes, then-no}
 use Rattle.definition.specs.declared.Match.the-variants.{To}

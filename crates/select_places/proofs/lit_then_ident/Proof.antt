@@ -1,4 +1,4 @@
--- `lit_then_ident` is an identifier behind a word.
+-- `lit_then_ident` is an identifier after a word.
 use mathlib.Core.Path.{sym, _∙_}
 use Rattle.select_places.proofs.Chains.{then-yes, then-no}
 use borrow.Author.Needs.{needs}

@@ -5,8 +5,8 @@ use borrow.Author.Needs.{needs}
 use Rattle.select_unicode.proofs.at_beyond_ascii.Statement.{statement}
 use Rattle.select_unicode.proofs.at_beyond_ascii.Tie as tie
 
-constructor-behind-requires : tie.Need-constructor-behind-requires
-constructor-behind-requires c κs = c .before .before .before .before .before .before .before .before .before .before .pre .0
+constructor-after-requires : tie.Need-constructor-after-requires
+constructor-after-requires c κs = c .before .before .before .before .before .before .before .before .before .before .pre .0
 
 uoperator-requires : tie.Need-uoperator-requires
 uoperator-requires c κs = c .before .before .before .before .before .before .before .before .before .before .before .before .pre .0
@@ -23,11 +23,11 @@ returns c =
     (placed _ _ (e .try-place2 .ensures)
     (kept (f .keep .ensures)
     (placed _ _ (g .try-place .ensures)
-    (placed _ _ (h .alone .ensures) refl (h .before .white-behind .ensures))
+    (placed _ _ (h .alone .ensures) refl (h .before .white-after .ensures))
     (g .before .line-end .ensures))
     (f .before .quantifier .ensures))
-    (e .before .ident-behind .ensures))
-    (d .before .constructor-behind .ensures))
+    (e .before .ident-after .ensures))
+    (d .before .constructor-after .ensures))
     (c .before .uoperator .ensures)
 
 pub at-beyond-ascii-spec : {M : Type 1} → statement M
@@ -35,5 +35,5 @@ at-beyond-ascii-spec =
     tie.close
     (tie.spec
     (λ c κs. search needs) (λ c κs. search needs) (λ c κs. search needs) (λ c κs. search needs) (λ c κs. search needs)
-    (λ c κs. search needs) (λ c κs. search needs) (λ c κs. search needs) constructor-behind-requires (λ c κs. search needs)
+    (λ c κs. search needs) (λ c κs. search needs) (λ c κs. search needs) constructor-after-requires (λ c κs. search needs)
     uoperator-requires (λ c κs. search needs) returns)

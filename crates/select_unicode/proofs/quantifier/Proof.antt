@@ -1,6 +1,6 @@
 -- `quantifier` tries the keyword operators at ∀ and ∃ alone.
 use mathlib.Core.Path.{sym, _∙_}
-use Rattle.select_unicode.proofs.Behind.{quantified-no}
+use Rattle.select_unicode.proofs.After.{quantified-no}
 use borrow.Author.Needs.{needs}
 use Rattle.select_unicode.proofs.quantifier.Statement.{statement}
 use Rattle.select_unicode.proofs.quantifier.Tie as tie

@@ -1,4 +1,4 @@
--- The code's texts are those that the definition's tables give, so that the byte behind a start is the text's.
+-- The code's texts are those that the definition's tables give, so that the byte after a start is the text's.
 use Prim.Native.Nat.{_+_, _<_}
 use mathlib.Core.List.{[]}
 use lib.ListN.{getD}

@@ -1,5 +1,5 @@
 -- `kw_op` is what trying every keyword operator gives: none is there where the word that the text's byte begins would have no operator
--- character behind it, and no word begins another, so the first that fits is the only one. It stands in the text, so the sum fits.
+-- character after it, and no word begins another, so the first that fits is the only one. It stands in the text, so the sum fits.
 use mathlib.Core.Path.{sym, _∙_}
 use borrow.Author.Tests.{not-true}
 use Rattle.definition.specs.Utf8.{encode, encode-all}

@@ -1,4 +1,4 @@
--- The code's names and starts are those that the definition's list gives, so that the byte behind a start is the name's.
+-- The code's names and starts are those that the definition's list gives, so that the byte after a start is the name's.
 use Prim.Native.Nat.{_+_, _<_}
 use mathlib.Core.List.{[]}
 use lib.ListN.{getD}

@@ -1,12 +1,12 @@
--- `bad_number_after` is the latest of identifier characters behind three ends.
-use Rattle.match_number.specs.FloatParts.{bad-number-behind}
+-- `bad_number_after` is the latest of identifier characters after three ends.
+use Rattle.match_number.specs.FloatParts.{bad-number-at-ends}
 use Rattle.match_number.proofs.IntegerLaws.{then-of, later-of}
 use borrow.Author.Needs.{needs}
 use Rattle.match_number.proofs.floats.bad_number_after.Statement.{statement}
 use Rattle.match_number.proofs.floats.bad_number_after.Tie as tie
 
 returns : tie.Need-returns
-unfolding bad-number-behind
+unfolding bad-number-at-ends
 returns c =
     let d = c .before .before in
     let e = d .before .before .before in

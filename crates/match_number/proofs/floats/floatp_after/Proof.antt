@@ -1,4 +1,4 @@
--- `floatp_after` is a point and the digits behind it.
+-- `floatp_after` is a point and the digits after it.
 use mathlib.Core.Path.{sym, _∙_}
 use Rattle.match_number.proofs.NumberLaws.{fraction-none, fraction-some}
 use borrow.Author.Needs.{needs}

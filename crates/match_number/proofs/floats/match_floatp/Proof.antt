@@ -1,4 +1,4 @@
--- `match_floatp` is the definition's `match-floatp`: a fraction behind the digits.
+-- `match_floatp` is the definition's `match-floatp`: a fraction after the digits.
 use mathlib.Core.Path.{_∙_}
 use Rattle.match_number.proofs.IntegerLaws.{then-of}
 use Rattle.match_number.proofs.NumberLaws.{floatp-is}

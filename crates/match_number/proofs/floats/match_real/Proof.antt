@@ -1,4 +1,4 @@
--- `match_real` is the definition's `match-real`: a float with an R behind it.
+-- `match_real` is the definition's `match-real`: a float with an R after it.
 use mathlib.Core.Path.{_∙_}
 use Rattle.match_number.proofs.IntegerLaws.{then-of}
 use Rattle.match_number.proofs.NumberLaws.{real-is}

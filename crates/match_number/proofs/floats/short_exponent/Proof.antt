@@ -1,4 +1,4 @@
--- `short_exponent` is the definition's shortest exponent: one digit behind e or E and an optional sign.
+-- `short_exponent` is the definition's shortest exponent: one digit after e or E and an optional sign.
 use mathlib.Core.Path.{sym, _∙_}
 use borrow.Author.Tests.{not-true, not-false}
 use Rattle.definition.specs.Matchers.{is-e}

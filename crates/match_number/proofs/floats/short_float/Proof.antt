@@ -1,4 +1,4 @@
--- `short_float` is the later of a short exponent behind the digits and one behind their fraction.
+-- `short_float` is the later of a short exponent after the digits and one after their fraction.
 use Rattle.match_number.specs.FloatParts.{short-float}
 use Rattle.match_number.proofs.IntegerLaws.{later-of}
 use borrow.Author.Needs.{needs}

@@ -1,4 +1,4 @@
--- `backtick_part` looks behind a backtick, which is in no part itself.
+-- `backtick_part` looks after a backtick, which is in no part itself.
 use mathlib.Core.Path.{sym, _∙_}
 use Rattle.match_lit.proofs.ByteLaws.{has-inside}
 use Rattle.matchers.proofs.QuoteLaws.{part-tick, part-other}

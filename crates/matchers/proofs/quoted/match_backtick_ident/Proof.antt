@@ -1,5 +1,5 @@
 -- `match_backtick_ident` is the definition's `match-backtick-ident`. The invariant: the definition's loop from `j` on gives what it gives
--- from behind the two backticks. The measure is what is left of the text; a part has a byte at least, so there are at most `j` of them.
+-- from after the two backticks. The measure is what is left of the text; a part has a byte at least, so there are at most `j` of them.
 use Prim.Native.Nat.{_-_, _+_, _≤_}
 use mathlib.Core.Path.{_≡_, refl, sym, _∙_}
 use lib.ListN.{length}

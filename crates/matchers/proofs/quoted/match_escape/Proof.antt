@@ -1,4 +1,4 @@
--- `match_escape` is the definition's `match-escape`: behind the backslash the next byte decides, an equation for each outcome. The bytes
+-- `match_escape` is the definition's `match-escape`: after the backslash the next byte decides, an equation for each outcome. The bytes
 -- that it tests are the text's, so the sums fit.
 use mathlib.Core.Path.{sym, _∙_}
 use borrow.Author.Tests.{not-true, not-false}

@@ -1,4 +1,4 @@
--- The invariant is `Showing`: the digits behind `at` are written, and those of what is left are still to be written in front of them. The
+-- The invariant is `Showing`: the digits after `at` are written, and those of what is left are still to be written in front of them. The
 -- measure is what is left.
 use borrow.Author.Needs.{needs}
 use native.Mathlib.Omega.{arith}

@@ -9,7 +9,7 @@ use Rattle.position.proofs.ascii_runs.columns.Statement.{statement}
 use Rattle.position.proofs.ascii_runs.columns.Tie as tie
 
 sub-t10 : tie.Need-sub-t10
-sub-t10 c = omega (arith, c .before .before .covers .ensures (c .before .if1 .taken) .behind)
+sub-t10 c = omega (arith, c .before .before .covers .ensures (c .before .if1 .taken) .after)
 
 add-t11 : tie.Need-add-t11
 add-t11 c =
@@ -21,7 +21,7 @@ sub-t12 : tie.Need-sub-t12
 sub-t12 c =
     let t = c .before .before .before in
     let v = t .before .covers .ensures (t .if1 .taken) in
-    omega (arith, v .behind, v .order)
+    omega (arith, v .after, v .order)
 
 add-t13 : tie.Need-add-t13
 add-t13 c =

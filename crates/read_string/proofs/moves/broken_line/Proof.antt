@@ -1,4 +1,4 @@
--- A line's end is looked for behind a backslash.
+-- A line's end is looked for after a backslash.
 use mathlib.Core.Path.{sym, _∙_}
 use Rattle.match_lit.proofs.ByteLaws.{has-inside}
 use Rattle.read_string.proofs.MoveLaws.{broken-on, broken-off}

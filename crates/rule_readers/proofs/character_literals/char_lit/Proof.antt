@@ -1,4 +1,4 @@
--- The code point is what stands behind the quote.
+-- The code point is what stands after the quote.
 use Rattle.definition.specs.Kinds.{kind, kind-names, number-from}
 use Rattle.reader.proofs.Spanning.{end-asked}
 use Rattle.rule_readers.proofs.Characters.{char-does}

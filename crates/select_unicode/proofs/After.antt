@@ -1,4 +1,4 @@
--- What stands behind a character that passes a test, and where no keyword operator does. Rests on the definitions alone.
+-- What stands after a character that passes a test, and where no keyword operator does. Rests on the definitions alone.
 use Prim.Native.Nat.{ℕ}
 use mathlib.Core.Path.{_≡_, refl, sym, ap, _∙_}
 use mathlib.Core.Bool.{Bool, true, false}

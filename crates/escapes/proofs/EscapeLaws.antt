@@ -76,7 +76,7 @@ module _ (s : Bytes) (i : ℕ) where
         let h = past-read s (i + 1) p in
         simp (unescape, is-slash, is-past s (i + 1) 48 h, is-past s (i + 1) 98 h, is-past s (i + 1) 116 h, is-past s (i + 1) 110 h, is-past s (i + 1) 118 h, is-past s (i + 1) 102 h, is-past s (i + 1) 114 h, is-past s (i + 1) 117 h, is-past s (i + 1) 120 h, code-past s (i + 1) h)
 
-    -- Behind a backslash the byte decides.
+    -- After a backslash the byte decides.
     pub unescape-slash : (c : ℕ) → byte s (i + 1) ≡ Byte c → escaped s i c ≡ unescape s i
     unfolding unescape escaped
     unescape-slash c q =
