@@ -36,7 +36,7 @@ pub data Turn (A R : Type 0) : Type 0 where
   again : A → Turn A R
   done : R → Turn A R
 
--- at most n calls. `out` would be the answer past them: the crate `laws_progress` (proofs/Fuel.antt) shows for each use that there are never so many
+-- at most n calls. `out` would be the answer past them: the crate `laws_run` (proofs/Fuel.antt) shows for each use that there are never so many
 unfoldable pub loop : {A R : Type 0} → (A → Turn A R) → (A → R) → ℕ → A → R
 loop turn out zero a = out a
 loop turn out (suc n) a = elim (turn a) [ again b ↦ loop turn out n b | done r ↦ r ]

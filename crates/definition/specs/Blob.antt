@@ -1,7 +1,6 @@
 -- `blob` and `use_lang`. The contents are the text's own bytes, from byte `from` on: `acc` holds them in chunks.
 use Prim.Native.Nat.{ℕ}
 use mathlib.Core.Bool.{Bool, true, false, _||_}
-use mathlib.Core.List.{[]}
 use lib.Dec.{ltb, leb, eqb}
 use lib.ListN.{length}
 use Rattle.definition.specs.Basics.{Bytes, Turn, again, done, loop, fuel, ch, if_then_else_}

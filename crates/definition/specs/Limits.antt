@@ -187,19 +187,27 @@ refusal-rows =
     ∷ ("a name of 4,096 bytes", yes-or-no (name-too-long 4096), 0 ∷ [])
     ∷ ("a name of 4,097 bytes is refusal 7", yes-or-no (name-too-long 4097), 1 ∷ [])
     ∷ ("refusal 3 alters nothing", all-of (run [] [] [] (started 1 0) (7 ∷ []) (8 ∷ [])), 3 ∷ 0 ∷ 0 ∷ 0 ∷ (state-words (started 1 0) ++ (7 ∷ 8 ∷ [])))
-    ∷ ("refusal 4 alters nothing",
+    ∷ (
+      "refusal 4 alters nothing",
       all-of (run [] [] (no-ranges ++ (0 ∷ [])) (started 1 0) (7 ∷ []) (8 ∷ [])),
-      4 ∷ 0 ∷ 0 ∷ 0 ∷ (state-words (started 1 0) ++ (7 ∷ 8 ∷ [])))
-    ∷ ("refusal 5 alters nothing",
+      4 ∷ 0 ∷ 0 ∷ 0 ∷ (state-words (started 1 0) ++ (7 ∷ 8 ∷ [])),
+    )
+    ∷ (
+      "refusal 5 alters nothing",
       all-of (run [] [] (file [] ((201, 200) ∷ [])) (started 1 0) (7 ∷ []) (8 ∷ [])),
-      5 ∷ 0 ∷ 0 ∷ 0 ∷ (state-words (started 1 0) ++ (7 ∷ 8 ∷ [])))
+      5 ∷ 0 ∷ 0 ∷ 0 ∷ (state-words (started 1 0) ++ (7 ∷ 8 ∷ [])),
+    )
     ∷ ("3 goes before 8", answer (run (255 ∷ []) [] [] (started 1 0) [] []), 3 ∷ 0 ∷ 0 ∷ 0 ∷ state-words (started 1 0))
-    ∷ ("refusal 8 has its offset and alters nothing",
+    ∷ (
+      "refusal 8 has its offset and alters nothing",
       all-of (run (97 ∷ 255 ∷ []) [] no-ranges (started 1 0) (7 ∷ []) (8 ∷ [])),
-      8 ∷ 1 ∷ 0 ∷ 0 ∷ (state-words (started 1 0) ++ (7 ∷ 8 ∷ [])))
-    ∷ ("8 at the first byte of what is cut short",
+      8 ∷ 1 ∷ 0 ∷ 0 ∷ (state-words (started 1 0) ++ (7 ∷ 8 ∷ [])),
+    )
+    ∷ (
+      "8 at the first byte of what is cut short",
       answer (run (97 ∷ 0xE2 ∷ 0x88 ∷ []) [] no-ranges (started 1 0) [] []),
-      8 ∷ 1 ∷ 0 ∷ 0 ∷ state-words (started 1 0))
+      8 ∷ 1 ∷ 0 ∷ 0 ∷ state-words (started 1 0),
+    )
     ∷ ("the least of two bytes", bad-at (0xC2 ∷ 0x80 ∷ []), 0 ∷ 0 ∷ [])
     ∷ ("below the least of two bytes", bad-at (0xC1 ∷ 0xBF ∷ []), 8 ∷ 0 ∷ [])
     ∷ ("the least of three bytes", bad-at (0xE0 ∷ 0xA0 ∷ 0x80 ∷ []), 0 ∷ 0 ∷ [])
@@ -212,9 +220,11 @@ refusal-rows =
     ∷ ("above the greatest code point", bad-at (0xF4 ∷ 0x90 ∷ 0x80 ∷ 0x80 ∷ []), 8 ∷ 0 ∷ [])
     ∷ ("a byte that continues nothing, after a character of two bytes", bad-at (0xC3 ∷ 0xA9 ∷ 0x80 ∷ []), 8 ∷ 2 ∷ [])
     ∷ ("8 goes before 9", answer (run (255 ∷ []) [] no-ranges (between-items 9 0 0 0 0) [] []), 8 ∷ 0 ∷ 0 ∷ 0 ∷ state-words (between-items 9 0 0 0 0))
-    ∷ ("refusal 9 alters nothing",
+    ∷ (
+      "refusal 9 alters nothing",
       all-of (run [] [] no-ranges (between-items 1 0 0 0 0) (7 ∷ []) (8 ∷ [])),
-      9 ∷ 0 ∷ 0 ∷ 0 ∷ (state-words (between-items 1 0 0 0 0) ++ (7 ∷ 8 ∷ [])))
+      9 ∷ 0 ∷ 0 ∷ 0 ∷ (state-words (between-items 1 0 0 0 0) ++ (7 ∷ 8 ∷ [])),
+    )
     ∷ []
 
 unfoldable pub sound-rows : List Row
@@ -270,16 +280,21 @@ abbrev pub a-blob-text : Bytes
 a-blob-text = cps "```f\nx```"
 
 unfoldable pub stop-rows : List Row
-stop-rows =
-    ("the end in the last 16 numbers is stop 0",
-      all-of (run-on ab (started 1 0) 48 2),
-      0 ∷ 0 ∷ 0 ∷ 3 ∷ (at-line-1 3 2 ++ (first-ident ++ (second-ident ++ (the-end ++ cps "ab")))))
-    ∷ ("15 numbers left are stop 1, and keep what they held",
+stop-rows = (
+  "the end in the last 16 numbers is stop 0",
+  all-of (run-on ab (started 1 0) 48 2),
+  0 ∷ 0 ∷ 0 ∷ 3 ∷ (at-line-1 3 2 ++ (first-ident ++ (second-ident ++ (the-end ++ cps "ab")))),
+)
+    ∷ (
+      "15 numbers left are stop 1, and keep what they held",
       all-of (run-on ab (started 1 0) 47 3),
-      0 ∷ 0 ∷ 1 ∷ 2 ∷ (at-line-1 3 0 ++ (first-ident ++ (second-ident ++ (replicate 15 7 ++ (cps "ab" ++ (7 ∷ [])))))))
-    ∷ ("a payload too long is stop 2",
+      0 ∷ 0 ∷ 1 ∷ 2 ∷ (at-line-1 3 0 ++ (first-ident ++ (second-ident ++ (replicate 15 7 ++ (cps "ab" ++ (7 ∷ [])))))),
+    )
+    ∷ (
+      "a payload too long is stop 2",
       all-of (run-on ab (started 1 0) 48 1),
-      0 ∷ 0 ∷ 2 ∷ 1 ∷ (at-line-1 1 0 ++ (first-ident ++ (replicate 32 7 ++ cps "a"))))
+      0 ∷ 0 ∷ 2 ∷ 1 ∷ (at-line-1 1 0 ++ (first-ident ++ (replicate 32 7 ++ cps "a"))),
+    )
     ∷ ("a blob's name and contents are one payload", answer (run-on a-blob-text (started 1 0) 32 2), 0 ∷ 0 ∷ 2 ∷ 0 ∷ at-line-1 0 0)
     ∷ ("with room for both it is written", answer (run-on a-blob-text (started 1 0) 32 3), 0 ∷ 0 ∷ 0 ∷ 2 ∷ 9 ∷ 2 ∷ 5 ∷ 0 ∷ 0 ∷ 2 ∷ 0 ∷ 0 ∷ 0 ∷ [])
     ∷ ("1 goes before 2", all-of (run-on ab (started 1 0) 31 1), 0 ∷ 0 ∷ 1 ∷ 1 ∷ (at-line-1 1 0 ++ (first-ident ++ (replicate 15 7 ++ cps "a"))))
@@ -309,12 +324,16 @@ after-first = record {
 unfoldable pub carried-rows : List Row
 carried-rows =
     ("after a piece the comment is open", answer (run-on nested (started 1 0) 16 99), 0 ∷ 0 ∷ 1 ∷ 1 ∷ state-words after-first)
-    ∷ ("mode 1 goes on after it",
+    ∷ (
+      "mode 1 goes on after it",
       flattened (said (run-on nested after-first 99 99)),
-      flattened (a-comment 1 0 1 17 2 true " c *)" ∷ eof 1 17 2 ∷ []))
-    ∷ ("at the text's end each level gives a piece",
+      flattened (a-comment 1 0 1 17 2 true " c *)" ∷ eof 1 17 2 ∷ []),
+    )
+    ∷ (
+      "at the text's end each level gives a piece",
       flattened (said (run-on (cps "abc") (in-comment 3 1 2 1 0) 99 99)),
-      flattened (a-comment 1 0 1 3 1 false "*)" ∷ a-comment 1 0 1 3 2 false "*)" ∷ eof 1 3 2 ∷ []))
+      flattened (a-comment 1 0 1 3 1 false "*)" ∷ a-comment 1 0 1 3 2 false "*)" ∷ eof 1 3 2 ∷ []),
+    )
     ∷ []
 
 unfoldable pub limit-rows : List Row

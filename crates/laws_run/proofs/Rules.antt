@@ -168,14 +168,16 @@ module _ (s name : Bytes) (U : Type 0) (st : State) where
     file-line-says : i + 12 ≤ e → Says s name U st (finish s st e (kind "STRING") (name ++ (cps "(" ++ (show (st .line) ++ cps ")"))))
     unfolding cps encode-all encode
     file-line-says h = up-to (kind "STRING") (name ++ (cps "(" ++ (show (st .line) ++ cps ")"))) o λ l.
-        inr
-        (omega (
-          arith,
-          length-append name (cps "(" ++ (show (st .line) ++ cps ")")),
-          length-append (cps "(") (show (st .line) ++ cps ")"),
-          length-append (show (st .line)) (cps ")"),
-          line-size (st .line) l,
-        ), h)
+        inr (
+          omega (
+            arith,
+            length-append name (cps "(" ++ (show (st .line) ++ cps ")")),
+            length-append (cps "(") (show (st .line) ++ cps ")"),
+            length-append (show (st .line)) (cps ")"),
+            line-size (st .line) l,
+          ),
+          h,
+        )
 
     -- a blob's name is a part of what was chosen
     title : (n : ℕ) → length (blob-header s st e n .name) + i ≤ e

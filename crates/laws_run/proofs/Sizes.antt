@@ -8,7 +8,6 @@ use mathlib.Core.Option.{Option, some}
 use native.Mathlib.Omega.{arith}
 use lib.Dec.{leb, eqb}
 use lib.ListN.{length, drop, length-append, length-drop, length-take}
-
 use borrow.Author.Tests.{leb-true}
 use Rattle.definition.specs.Basics.{Bytes, ch, same}
 use Rattle.definition.specs.Utf8.{encode-all}
