@@ -79,7 +79,7 @@ use Rattle.definition.specs.Matchers.{
   match-backtick-ident,
   no-comment,
 }
-use Rattle.definition.specs.Rules.{place-rules, rule-of}
+use Rattle.definition.specs.Rules.{place-rules, chosen-rule}
 use Rattle.definition.specs.Select.{keep, try-words, try-all, one-of-then-symbols, lit-then-symbols, places, select}
 use Rattle.definition.specs.Numbers.{
   strips,
@@ -143,7 +143,7 @@ unfolding
     places select strips strip-left strip-if-last strip-right clean-number digit-value value-from base-of after-zero int-of-string show code-at
     hex-value unescape is-surrogate onto-first split-lines join-lines empty-prefix trim-width maybe-trim-lines close-comment at-character
     offsets-sound counts-sound depth-sound comment-sound sound start after comment-stop comment line-comment string-stop escape-turn
-    string-lit blob-stop blob use-lang place-rules rule-of starts-with act token-turn next-token step put run-turn run-items text-too-long
+    string-lit blob-stop blob use-lang place-rules chosen-rule starts-with act token-turn next-token step put run-turn run-items text-too-long
     name-too-long refusal run
 listed text classes =
     said (run text (cps "stdin") classes (started 1 0) (replicate (record-size * (length text + 1)) 0) (replicate (4 * length text) 0))

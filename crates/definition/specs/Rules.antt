@@ -101,5 +101,5 @@ place-rules w =
     ∷ []
 
 -- the rule of a choice; that of place 0, which is none of the 50, is `RAny`
-unfoldable pub rule-of : Choice → Rule
-rule-of c = getD (RAny ∷ place-rules (c .word)) (c .place) RAny
+unfoldable pub chosen-rule : Choice → Rule
+chosen-rule c = getD (RAny ∷ place-rules (c .word)) (c .place) RAny

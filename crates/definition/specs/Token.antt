@@ -50,7 +50,7 @@ use Rattle.definition.specs.Rules.{
   RUOperator,
   RMixfix,
   RAny,
-  rule-of,
+  chosen-rule,
 }
 use Rattle.definition.specs.Select.{select}
 use Rattle.definition.specs.Numbers.{clean-number, int-of-string, show}
@@ -199,7 +199,7 @@ by-rule s name f st e RAny = any s st
 
 -- what is done with a choice
 unfoldable pub act : Bytes → Bytes → Bytes → State → Choice → Token-turn
-act s name f st c = by-rule s name f st (c .end) (rule-of c)
+act s name f st c = by-rule s name f st (c .end) (chosen-rule c)
 
 -- one call of `next_token`
 unfoldable pub token-turn : Bytes → Bytes → Bytes → State → Token-turn

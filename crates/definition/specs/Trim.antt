@@ -22,7 +22,7 @@ join-lines [] = []
 join-lines (l ∷ []) = l
 join-lines (l ∷ m ∷ ls) = l ++ (ch "\n" ∷ join-lines (m ∷ ls))
 
--- `aux` of `ensures_empty_prefix`: i spaces are after; the place of the first other byte if it is k at most, else k
+-- `aux` of `ensures_empty_prefix`: i spaces have been passed; the place of the first other byte if it is k at most, else k
 unfoldable pub empty-prefix : ℕ → ℕ → Bytes → ℕ
 empty-prefix k i [] = k
 empty-prefix k i (b ∷ l) =

@@ -14,6 +14,28 @@ pub const MATCH: u32 = 33;
 
 pub const IDENT: u32 = 65;
 
+pub const TILDE: u32 = 66;
+
+pub const CONJUNCTION: u32 = 68;
+
+pub const DISJUNCTION: u32 = 69;
+
+pub const SQUIGGLY_RARROW: u32 = 82;
+
+pub const RARROW: u32 = 83;
+
+pub const LONG_LEFT_ARROW: u32 = 84;
+
+pub const LARROW: u32 = 85;
+
+pub const IFF: u32 = 86;
+
+pub const IMPLIES: u32 = 87;
+
+pub const COLON_COLON: u32 = 99;
+
+pub const COLON_EQUALS: u32 = 100;
+
 pub const SEMICOLON: u32 = 101;
 
 pub const PIPE_RIGHT: u32 = 112;
@@ -71,6 +93,10 @@ pub const FORALL_OP: u32 = 143;
 pub const AND_OP: u32 = 144;
 
 pub const SEMICOLON_OP: u32 = 145;
+
+pub const OP_MIXFIX_ASSIGNMENT: u32 = 146;
+
+pub const OP_MIXFIX_ACCESS: u32 = 147;
 
 pub const STRING: u32 = 148;
 

@@ -19,7 +19,8 @@ pub enum Sequence {
     End,
 }
 
-// The source's `get`, `byte` and `next` give -1 past the end; here the end is an answer of its own.
+// The source's `get`, `byte` and `next` give -1 past the end; here the end is an answer of its own. (`Letter` is `get`'s, which only the
+// definition has: the code reads a character with its width, `Sequence`.)
 pub enum Letter {
     Code(u32),
     Past,

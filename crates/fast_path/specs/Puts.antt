@@ -1,4 +1,4 @@
--- What writing a token asks for and does. s is the text, here the place where the reader stands after white space; rs and ps are the
+-- What writing a token asks for and does. s is the text, here the cursor of the reader after white space; rs and ps are the
 -- buffers before, rs′ and ps′ those after.
 use Prim.Native.Nat.{ℕ, _+_, _-_, _≤_, _<_}
 use mathlib.Core.Path.{_≡_}

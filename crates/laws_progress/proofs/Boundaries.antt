@@ -1,18 +1,17 @@
--- Walks by whole characters and the boundaries of a text are the same thing: a walk from a boundary comes to boundaries only, every
--- boundary is walked to from the start, and a text is clean exactly when it is legal. Rests on the laws of UTF-8 (crate `utf8`).
+-- Walks by whole characters and the boundaries of a text are the same thing: a walk from a boundary comes to boundaries only, and every
+-- boundary is walked to from the start. Rests on the laws of UTF-8 (crate `utf8`).
 use Prim.Native.Nat.{ℕ, _+_, _≤_}
 use mathlib.Core.Path.{_≡_, sym, subst, _∙_}
-use mathlib.Core.Logic.{_↔_}
 use native.Mathlib.Omega.{arith}
 use Rattle.definition.specs.Basics.{Bytes}
-use Rattle.definition.specs.Utf8.{Legal, Boundary, sequence-at}
+use Rattle.definition.specs.Utf8.{Boundary, sequence-at}
 use Rattle.definition.specs.declared.Sequence.the-variants.{Char}
 use Rattle.lemmas.proofs.Cases.{by-order}
 use Rattle.utf8.proofs.Character.{char-read, read-char}
 use Rattle.utf8.proofs.Runs.{by-chars}
-use Rattle.utf8.proofs.Boundaries.{boundary-start, boundary-next, boundary-end, legal-whole, char-before}
+use Rattle.utf8.proofs.Boundaries.{boundary-next, char-before}
 use Rattle.utf8.proofs.Reading.{No-char}
-use Rattle.laws_progress.proofs.Walks.{Walk, here, on, Clean}
+use Rattle.laws_progress.proofs.Walks.{Walk, here, on}
 
 -- a walk from a boundary comes to a boundary
 pub walk-boundary : {s : Bytes} {i e : ℕ} → Walk s i e → Boundary s i → Boundary s e
@@ -38,7 +37,3 @@ boundary-walk {s} {i} {e} b d h = by-chars s (λ j. Boundary s j → j ≤ e →
         let k : a .width ≡ w = cc in
         on c w q (ih (boundary-next b (char-read q)) (omega (arith, a .ends))))
         (λ l. here (omega arith))
-
--- a text has whole characters only exactly when it is legal
-pub clean-legal : (s : Bytes) → Clean s 0 ↔ Legal s
-clean-legal s = (λ c. legal-whole (walk-boundary c (boundary-start s)), λ l. boundary-walk (boundary-start s) (boundary-end l) (omega arith))

@@ -10,7 +10,7 @@ use lib.ListN.{length}
 use borrow.Author.Tests.{eqb-true}
 use Rattle.definition.specs.Basics.{Bytes, Turn, again, done}
 use Rattle.definition.specs.Kinds.{kind}
-use Rattle.definition.specs.Rules.{place-rules, rule-of}
+use Rattle.definition.specs.Rules.{place-rules, chosen-rule}
 use Rattle.definition.specs.Select.{select}
 use Rattle.definition.specs.Item.{Step}
 use Rattle.definition.specs.Token.{act, token-turn}
@@ -53,7 +53,7 @@ module _ (s name f : Bytes) where
 
     -- and there it is given
     none-says : c .place ≡ 0 → Gives-error 6 (token-turn s name f st)
-    unfolding c token-turn act rule-of place-rules
+    unfolding c token-turn act chosen-rule place-rules
     none-says q = by-le (Gives-error 6) (length s) (st .offset) (λ n. absurd (omega arith)) (λ _. rw q refl)
 
   -- what holds at a reading position where a run stands

@@ -67,9 +67,9 @@ pub record Gives (s : Bytes) (st : State) (t : Step) : Type 0 where
   pub less : left s (t .next) ≤ level s st
   pub opened : Opened st → Opened (t .next)
 
--- all that is kept. The two bounds of a payload are one: with a name of any length that is accepted a payload and what can still be
--- written after it stay within the budget, and with a short name a buffer of four bytes for each byte of the text, and a hundred, is
--- enough for any payload
+-- all that is kept. The two bounds of a payload follow from one, that of its form (`Small`): with a name of any length that is accepted
+-- a payload and what can still be written after it stay within the budget, and with a short name a buffer of four bytes for each byte of
+-- the text, and a hundred, is enough for any payload
 pub record Kept (s name : Bytes) (st : State) (t : Step) : Type 0 where
   pub gives : Gives s st t
   pub sound : Stands s st → Stands s (t .next)

@@ -1,7 +1,7 @@
 -- No fuel of the definition ever runs out. `loop` stands in ten definitions; for each, `..-enough` says that more fuel and
 -- another `out` change nothing, and `..-unroll` that it is what its first turn says, with itself for a further call. Where a
--- definition only begins a loop, the loop has a name, `..-from` or `show-onto`, and `..-is` says what the definition is by it. (Those that
--- contracts of code speak of stand in specs/Goings.antt.)
+-- definition only begins a loop, the loop has a name, `..-from` or `show-onto`, and `..-is` says what the definition is by it. (Those of
+-- readers and runs stand in specs/Going.antt.)
 --   star          for any text and offset
 --   backtick      `match-backtick-ident`: for any text and offset
 --   no-comment    where the end that it is given is the text's; every choice of `select` has such an end

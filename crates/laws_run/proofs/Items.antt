@@ -1,5 +1,5 @@
--- The steps of a text from a state, one by one: how much fuel there is doesn't matter, and what some steps leave is the rest. Rests on the
--- law that each step leaves less to read (crate `laws_progress`).
+-- The steps of a text from a state, one by one: how much fuel there is doesn't matter, and what some steps leave is the rest. Rests on what
+-- every step keeps (Steps): each leaves less to read.
 use Prim.Native.Nat.{ℕ, zero, suc, _≤_, _<_}
 use mathlib.Core.Path.{_≡_, refl, sym, ap, subst, _∙_}
 use mathlib.Core.Bool.{true, false}

@@ -1,5 +1,6 @@
 -- Document 01's laws for runs. s is the text, name the file's name, f the class file, st the state given, rs and ps the buffers as they
--- were lent. What the statements' words mean is in specs/: Items, Written, Split. Rests on the induction over a run's turns (Turns).
+-- were lent. What the statements' words mean is in crate `definition` (Items) and in specs/ (Written, Split). Rests on the induction
+-- over a run's turns (RunTurns).
 use Prim.Native.Nat.{ℕ, _+_, _*_, _≤_}
 use mathlib.Core.Path.{_≡_, refl, sym, ap, _∙_}
 use mathlib.Core.Bool.{true}

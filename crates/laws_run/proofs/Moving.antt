@@ -48,7 +48,7 @@ module _ {s : Bytes} where
       let a = char-at q in
       rw (lt-ltb i (length s) (omega (arith, a .some, a .within)), char-starts (char-read q)) refl
 
-  -- a sound state in a legal text has whole characters before it
+  -- a sound state in a legal text has whole characters ahead of it
   pub stands-clean : {st : State} → Stands s st → Clean s (st .offset)
   stands-clean {st} h = at-character-clean s (st .offset) (first-bad-clean s (h .legal)) (h .sound .offset)
 

@@ -12,23 +12,28 @@ use lib.Dec.{ltb}
 use lib.ListN.{length, take, drop, getD}
 use lib.Seq.{getD-take}
 use borrow.Author.Tests.{ltb-true}
-use Rattle.definition.specs.Basics.{Bytes, loop, mem-cp}
+use Rattle.definition.specs.Basics.{Bytes, done, loop, mem-cp}
 use Rattle.definition.specs.Utf8.{Scalars, encode, encode-all, sequence, sequence-at}
 use Rattle.definition.specs.Text.{lexeme, char-has, byte-has, star}
 use Rattle.definition.specs.Chars.{is-digit, is-hex, is-lower, is-ident-start, is-constructor-start, is-ident-char, is-anywhite, is-newline-char, is-op-char, is-symbolchar, is-uoperator, in-table, ascii-table, count-up}
 use Rattle.definition.specs.Tables.{cps, early-literals, kw-op-rules, op-tokens, mixfix-rules}
-use Rattle.definition.specs.Matchers.{one, match-newline}
+use Rattle.definition.specs.Kinds.{kind}
+use Rattle.definition.specs.Position.{cur-pos}
+use Rattle.definition.specs.Matchers.{one, match-newline, no-comment}
+use Rattle.definition.specs.Rules.{place-rules, chosen-rule}
 use Rattle.definition.specs.Select.{select}
-use Rattle.definition.specs.State.{started, close-comment}
+use Rattle.definition.specs.State.{started, advance, close-comment}
+use Rattle.definition.specs.Item.{tok}
 use Rattle.definition.specs.Comment.{comment, comment-stop}
 use Rattle.definition.specs.Regex.{Re, never, Permits}
 use Rattle.definition.specs.Patterns.{patterns, pattern}
 use Rattle.definition.specs.Longest.{Permitted, Longest}
-use Rattle.definition.specs.Token.{token-turn}
-use Rattle.definition.specs.Reading.{EveryReading, given, carried, Gives-error}
+use Rattle.definition.specs.Token.{act, token-turn}
+use Rattle.definition.specs.Reading.{EveryReading, given, gave, carried, Gives-error}
 use Rattle.definition.specs.Samples.{accepts}
 use Rattle.definition.specs.declared.Choice.{Choice}
 use Rattle.definition.specs.declared.State.{State}
+use Rattle.definition.specs.declared.Extra.the-variants.{NoExtra}
 use Rattle.definition.proofs.Samples.{accepted-in, in-accepted}
 use Rattle.lemmas.proofs.Cases.{both, both-true, by-order}
 use Rattle.utf8.proofs.EncodingLaws.{encode-1}
@@ -154,7 +159,10 @@ last-end : (P : ℕ → Type 0) (e : ℕ) → P (suc e) → (b : ℕ) → e < b 
 last-end P e h b l w = subst P (omega arith) h
 
 minus-slashes-decides : (f : Bytes) → Decides (cps "-//c") f 0 3 47
-unfolding cps encode-all encode pattern patterns early-literals kw-op-rules op-tokens mixfix-rules mem-cp is-digit is-hex is-lower is-ident-start is-constructor-start is-ident-char is-anywhite is-newline-char is-op-char is-symbolchar is-uoperator in-table ascii-table count-up
+unfolding
+    cps encode-all encode pattern patterns early-literals kw-op-rules op-tokens mixfix-rules mem-cp is-digit is-hex is-lower
+    is-ident-start is-constructor-start is-ident-char is-anywhite is-newline-char is-op-char is-symbolchar is-uoperator in-table
+    ascii-table count-up
 minus-slashes-decides f = record {
   plain = refl;
   ahead = omega arith;
@@ -171,6 +179,42 @@ pub minus-slashes : (f name : Bytes) → EveryReading (cps "-//c") name f (start
 unfolding cps encode-all encode
 minus-slashes f name every = decided (select (cps "-//c") f 0) (minus-slashes-decides f) (every (started 1 0) given refl (omega arith) .longest)
 
+-- its token is cut before `//`, so that the next reading position is at byte 1
+minus-read : (f name : Bytes) (c : Choice) → c .place ≡ 47 → c .end ≡ 3
+    → act (cps "-//c") name f (started 1 0) c
+    ≡ done (tok (kind "OPINFIX2") (cps "-") (cur-pos (cps "-//c") (started 1 0)) (cur-pos (cps "-//c") (advance (started 1 0) 1)) NoExtra (advance (started 1 0) 1))
+unfolding act chosen-rule place-rules no-comment loop byte-has cps encode-all encode
+minus-read f name c p e = rw (p, e) refl
+
+minus-turn : (f name : Bytes) → select (cps "-//c") f 0 .place ≡ 47 → select (cps "-//c") f 0 .end ≡ 3
+    → token-turn (cps "-//c") name f (started 1 0)
+    ≡ done (tok (kind "OPINFIX2") (cps "-") (cur-pos (cps "-//c") (started 1 0)) (cur-pos (cps "-//c") (advance (started 1 0) 1)) NoExtra (advance (started 1 0) 1))
+unfolding token-turn cps encode-all encode
+minus-turn f name p e = minus-read f name (select (cps "-//c") f 0) p e
+
+slashes-decide : (f : Bytes) → Decides (cps "-//c") f 1 3 30
+unfolding
+    cps encode-all encode pattern patterns early-literals kw-op-rules op-tokens mixfix-rules mem-cp is-digit is-hex is-lower
+    is-ident-start is-constructor-start is-ident-char is-anywhite is-newline-char is-op-char is-symbolchar is-uoperator in-table
+    ascii-table count-up
+slashes-decide f = record {
+  plain = refl;
+  ahead = omega arith;
+  within = omega arith;
+  has = refl;
+  first = refl;
+  longest = last-end (λ b. none-accepts (by-place f) (lexeme (cps "-//c") 1 b) ≡ true) 3 refl;
+}
+
+-- There the choice is place 30, the line comment, with `//`: place 48 has `//` too, and is later.
+pub slashes : (f name : Bytes) → EveryReading (cps "-//c") name f (started 1 0)
+    → (select (cps "-//c") f 1 .place ≡ 30) × (select (cps "-//c") f 1 .end ≡ 3)
+unfolding cps encode-all encode
+slashes f name every =
+    let first = minus-slashes f name every in
+    let there = gave given refl (minus-turn f name (first .0) (first .1)) in
+    decided (select (cps "-//c") f 1) (slashes-decide f) (every (advance (started 1 0) 1) there refl (omega arith) .longest)
+
 -- a state that was saved inside the comment of the next text, after its opening
 abbrev pub in-comment : State
 in-comment = record { offset = 2; line = 1; bol = 0; column = 0; comments = 0; mode = 1; depth = 1; comment = record { line = 1; col = 0 } }
@@ -181,7 +225,10 @@ unfolding cps encode-all encode comment loop star sequence-at sequence comment-s
 comment-read = (refl, refl)
 
 after-comment-decides : (f : Bytes) → Decides (cps "(* x *)-//c") f 7 10 47
-unfolding cps encode-all encode pattern patterns early-literals kw-op-rules op-tokens mixfix-rules mem-cp is-digit is-hex is-lower is-ident-start is-constructor-start is-ident-char is-anywhite is-newline-char is-op-char is-symbolchar is-uoperator in-table ascii-table count-up
+unfolding
+    cps encode-all encode pattern patterns early-literals kw-op-rules op-tokens mixfix-rules mem-cp is-digit is-hex is-lower
+    is-ident-start is-constructor-start is-ident-char is-anywhite is-newline-char is-op-char is-symbolchar is-uoperator in-table
+    ascii-table count-up
 after-comment-decides f = record {
   plain = refl;
   ahead = omega arith;
@@ -204,7 +251,10 @@ after-comment f name every =
     decided (select s f 7) (after-comment-decides f) (subst (λ i. Longest s f i (select s f i)) (comment-read .1) there)
 
 no-place-has-backslash : (f : Bytes) (e : ℕ) → 0 < e → e ≤ length (cps "\\") → none-accepts (by-place f) (lexeme (cps "\\") 0 e) ≡ true
-unfolding cps encode-all encode pattern patterns early-literals kw-op-rules op-tokens mixfix-rules mem-cp is-digit is-hex is-lower is-ident-start is-constructor-start is-ident-char is-anywhite is-newline-char is-op-char is-symbolchar is-uoperator in-table ascii-table count-up
+unfolding
+    cps encode-all encode pattern patterns early-literals kw-op-rules op-tokens mixfix-rules mem-cp is-digit is-hex is-lower
+    is-ident-start is-constructor-start is-ident-char is-anywhite is-newline-char is-op-char is-symbolchar is-uoperator in-table
+    ascii-table count-up
 no-place-has-backslash f = last-end (λ e. none-accepts (by-place f) (lexeme (cps "\\") 0 e) ≡ true) 0 refl
 
 -- "unexpected char exactly when no rule permits a byte": no place has a backslash, so that at the start of this text none is chosen, and

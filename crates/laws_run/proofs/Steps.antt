@@ -1,5 +1,5 @@
 -- What every turn of `next-token` says, what every step keeps, and that every state that a run comes to is sound. Rests on the walk over
--- the rules (Rules), on the longest match (crate `laws_longest`) for what a choice's rule asks, and on what every form keeps (Forms).
+-- the rules (Rules), on the longest match (crate `laws_longest`) for what a choice's rule asks, and on what every form keeps (FormLaws).
 use Prim.Native.Nat.{ℕ, zero, suc, _+_, _-_, _≤_, _<_}
 use mathlib.Core.Path.{_≡_, refl, sym, ap, ap₂, subst, _∙_}
 use mathlib.Core.Bool.{true, false, not, false≢true}
@@ -13,7 +13,7 @@ use Rattle.definition.specs.Basics.{Bytes, loop, fuel, ch, codes}
 use Rattle.definition.specs.Utf8.{encode, encode-all}
 use Rattle.definition.specs.Text.{byte-is}
 use Rattle.definition.specs.Tables.{cps, op-tokens}
-use Rattle.definition.specs.Rules.{Rule, RAny, place-rules, rule-of}
+use Rattle.definition.specs.Rules.{Rule, RAny, place-rules, chosen-rule}
 use Rattle.definition.specs.Select.{select}
 use Rattle.definition.specs.Item.{Step, error-here}
 use Rattle.definition.specs.Token.{by-rule, act, token-turn, next-token, step}
@@ -115,16 +115,16 @@ choice-gets s f st c l h (suc k) q =
 
 -- ---- turns
 
--- between two items a state is neither in a comment nor past the end
-pub record Between (st : State) : Type 0 where
+-- a state in which a token comes next: neither in a comment nor past the end
+pub record Outside (st : State) : Type 0 where
   pub no-comment : st .mode ≡ 1 → ⊥
   pub going : st .mode ≡ 2 → ⊥
 
-pub zero-between : {st : State} → st .mode ≡ 0 → Between st
-zero-between m = record { no-comment = λ n. absurd (omega arith); going = λ n. absurd (omega arith) }
+pub zero-outside : {st : State} → st .mode ≡ 0 → Outside st
+zero-outside m = record { no-comment = λ n. absurd (omega arith); going = λ n. absurd (omega arith) }
 
-between-zero : {s : Bytes} {st : State} → Between st → Stands s st → st .mode ≡ 0
-between-zero {s} {st} n h =
+outside-zero : {s : Bytes} {st : State} → Outside st → Stands s st → st .mode ≡ 0
+outside-zero {s} {st} n h =
     let a = n .no-comment in
     let b = n .going in
     omega (arith, h .sound .mode)
@@ -132,7 +132,7 @@ between-zero {s} {st} n h =
 module _ (s name f : Bytes) where
   -- what is done with the choice at st; error 6 says that none of the places was chosen
   act-says : (st : State) → st .offset ≤ length s → Says s name (select s f (st .offset) .place ≡ 0) st (act s name f st (select s f (st .offset)))
-  unfolding act rule-of
+  unfolding act chosen-rule
   act-says st h = go (c .place) refl
     where
       c : Choice
@@ -156,17 +156,17 @@ module _ (s name f : Bytes) where
       by-le (Says s name (select s f (st .offset) .place ≡ 0) st) (length s) (st .offset) (λ l. absurd (omega arith)) (λ _. act-says st (omega arith))
 
   -- Everywhere a turn skips something, or gives an item that keeps all that is kept.
-  pub turn-keeps : (st : State) → Between st → Leads (Goes s (Unit {0}) st) (Kept s name st) (token-turn s name f st)
+  pub turn-keeps : (st : State) → Outside st → Leads (Goes s (Unit {0}) st) (Kept s name st) (token-turn s name f st)
   unfolding token-turn
   turn-keeps st n =
-      by-le (Leads (Goes s (Unit {0}) st) (Kept s name st)) (length s) (st .offset) (λ _. eof-kept st _ _ (between-zero n))
-      (λ l. leads-map (λ b g. g) (λ t k. form-kept (between-zero n) (omega arith) k) (act s name f st (select s f (st .offset))) (act-says st (omega arith)))
+      by-le (Leads (Goes s (Unit {0}) st) (Kept s name st)) (length s) (st .offset) (λ _. eof-kept st _ _ (outside-zero n))
+      (λ l. leads-map (λ b g. g) (λ t k. form-kept (outside-zero n) (omega arith) k) (act s name f st (select s f (st .offset))) (act-says st (omega arith)))
 
   -- from a sound state between comments a turn comes to one
   pub token-turn-stands : (st : State) → Stands s st → st .mode ≡ 0
       → Leads (λ b. Stands s b × (b .mode ≡ 0)) (λ t. Stands s (t .next)) (token-turn s name f st)
   token-turn-stands st h m =
-      leads-map (λ b g. let k = goes-stands g h in (k .0, k .1 ∙ m)) (λ t k. k .sound h) (token-turn s name f st) (turn-keeps st (zero-between m))
+      leads-map (λ b g. let k = goes-stands g h in (k .0, k .1 ∙ m)) (λ t k. k .sound h) (token-turn s name f st) (turn-keeps st (zero-outside m))
 
   -- ---- `next-token`
 
@@ -187,23 +187,23 @@ module _ (s name f : Bytes) where
   unfolding next-token
   token-unroll st = loop-unroll token-falls _ (fuel s) st tt (omega arith)
 
-  -- after a path a state is still between two items
-  path-between : {st a : State} → Path s st a → Between st → Between a
-  path-between p n =
+  -- after a path a state is still one
+  path-outside : {st a : State} → Path s st a → Outside st → Outside a
+  path-outside p n =
       let q = path-reads p .mode in
       record { no-comment = λ m. n .no-comment (sym q ∙ m); going = λ m. n .going (sym q ∙ m) }
 
   -- the next token
-  next-token-kept : (st : State) → Between st → Kept s name st (next-token s name f st)
+  next-token-kept : (st : State) → Outside st → Kept s name st (next-token s name f st)
   unfolding next-token
   next-token-kept st n =
       loop-keeps (token-turn s name f) (Path s st) (Kept s name st) (λ a. error-here s a 6)
-      (λ a p. leads-map (λ b g. path-path p (g .path)) (λ t k. path-kept p k) (token-turn s name f a) (turn-keeps a (path-between p n)))
-      (λ a p. path-kept p (ended-kept a (path-between p n))) (fuel s) st stay
+      (λ a p. leads-map (λ b g. path-path p (g .path)) (λ t k. path-kept p k) (token-turn s name f a) (turn-keeps a (path-outside p n)))
+      (λ a p. path-kept p (ended-kept a (path-outside p n))) (fuel s) st stay
     where
       -- past its fuel it would be an error
-      ended-kept : (a : State) → Between a → Kept s name a (error-here s a 6)
-      ended-kept a n = error-kept a (between-zero n)
+      ended-kept : (a : State) → Outside a → Kept s name a (error-here s a 6)
+      ended-kept a n = error-kept a (outside-zero n)
 
   -- ---- steps
 
@@ -231,10 +231,10 @@ module _ (s name f : Bytes) where
   pub reached-stands : {g st : State} → Reached s name f g st → Stands s g → Stands s st
   reached-stands given h = h
   reached-stands (skipped {st} {next} r m e) h =
-      let v : Goes s (Unit {0}) st next = subst (Leads (Goes s (Unit {0}) st) (Kept s name st)) e (turn-keeps st (zero-between m)) in
+      let v : Goes s (Unit {0}) st next = subst (Leads (Goes s (Unit {0}) st) (Kept s name st)) e (turn-keeps st (zero-outside m)) in
       goes-stands v (reached-stands r h) .0
   reached-stands (gave {st} {t} r m e) h =
-      let v : Kept s name st t = subst (Leads (Goes s (Unit {0}) st) (Kept s name st)) e (turn-keeps st (zero-between m)) in
+      let v : Kept s name st t = subst (Leads (Goes s (Unit {0}) st) (Kept s name st)) e (turn-keeps st (zero-outside m)) in
       v .sound (reached-stands r h)
   reached-stands (carried {st} r m) h = piece-sound (comment-piece s (st .offset) 0 st (omega arith) m) (reached-stands r h) m
 

@@ -25,7 +25,7 @@ use Rattle.rule_table.specs.declared.table.Rule.the-variants as rules
 use Rattle.rule_table.specs.declared.table.Rule.the-variants.{White, Newline}
 use Rattle.rule_table.specs.declared.table.ActionRule.{ActionRule}
 use Rattle.rules.specs.Acting.{Acts}
-use Rattle.rules.proofs.RuleLaws.{needs-place, some-chosen, by-rule, ruled-acts, moved-turns, line-turns}
+use Rattle.rules.proofs.RuleLaws.{needs-place, some-chosen, turns-by-rule, ruled-acts, moved-turns, line-turns}
 use Rattle.lookahead.specs.White.{Between, AfterWhite}
 use Rattle.lookahead.proofs.TurnLaws.{Goes, turn-is, turn-acts, turn-goes}
 use Rattle.lookahead.specs.Lookahead.{Faces, SeesRule}
@@ -70,7 +70,7 @@ module _ {s f : Bytes} {first here : Cursor} {c : Choice} (k : Reaching s f firs
       let before : here .st .offset < length s = omega (arith, o .past, o .within) in
       let goes : (name : Bytes) → length name ≤ 4096 → Goes s name f (here .st) p = λ name named.
       turn-goes s name f (here .st) p (k .ready .standing .stands) (k .ready .between)
-      (turn-acts s name f (here .st) c (Again p) before q (by-rule (chosen-acts (k .ready) q before named) is (Again p) (turns name))) in
+      (turn-acts s name f (here .st) c (Again p) before q (turns-by-rule (chosen-acts (k .ready) q before named) is (Again p) (turns name))) in
       let g = goes [] (omega arith) in (
         record {
           ready = record { standing = g .standing; between = g .between; accepted = k .ready .accepted };

@@ -1,4 +1,4 @@
--- What stands ahead of a reader, and which item that is. s is the text, name the file's name, f the class file, at the place where the
+-- What stands ahead of a reader, and which item that is. s is the text, name the file's name, f the class file, at the cursor where the
 -- reader stands, here the one after white space and line ends.
 use Prim.Native.Nat.{_≤_}
 use mathlib.Core.Path.{_≡_}

@@ -24,7 +24,7 @@ abbrev pub Passes : Bytes → Bytes → State → Passed → Type 0
 Passes s f st (On p) = (name : Bytes) → Turns s name f (token-turn s name f st) (Again p)
 Passes s f st Nothing = Unit {0}
 
--- a reader stands at r as one at `at` does, reads the same item from there, and has no more of the text before it
+-- a reader stands at r as one at `at` does, reads the same item from there, and has no more of the text ahead of it
 pub record AfterWhite (s f : Bytes) (at r : Cursor) : Type 0 where
   pub ready : Between s f r
   pub same : (name : Bytes) → next-token s name f (r .st) ≡ next-token s name f (at .st)

@@ -15,7 +15,7 @@ use star::blanks::blank_at;
 use star::blanks::star_anywhite;
 ghost use Rattle.lookahead.specs.White.{Between, Passes, AfterWhite};
 
-// What is passed at a place: a run of white space or a line end, with the place after it, or nothing.
+// What is passed at a cursor: a run of white space or a line end, with the cursor after it, or nothing.
 enum Passed {
     On(Cursor),
     Nothing,

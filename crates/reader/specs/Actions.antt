@@ -1,5 +1,5 @@
 -- What an action on a choice stands for, and what is asked where it is carried out. s is the text, name the file's name, f the class
--- file, at the place where the reader stands, e the choice's end.
+-- file, at the cursor where the reader stands, e the choice's end.
 use Prim.Native.Nat.{ℕ, _≤_}
 use Prim.Native.String.{String}
 use mathlib.Core.Path.{_≡_}

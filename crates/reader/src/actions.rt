@@ -5,7 +5,7 @@
 //
 // There is no code here. What an action stands for, and what carrying it out asks for, is said in specs/Actions.antt. Proved
 // (in proofs/): which actions stand for a rule's token, error or line comment (ActionLaws), what a token up to a choice's end
-// asks for (Spanning), that a token or an error that is built from its positions is the definition's (Building), and that a
+// asks for (Spanning), that a token or an error that is built from its positions is the definition's (ActionBuilding), and that a
 // part of a slice is a lexeme (Parts). Assumed: nothing.
 use crate::Payload;
 

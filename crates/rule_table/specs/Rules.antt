@@ -1,5 +1,5 @@
--- What the source's rules lead to, the rule of each place, and what a rule does. s is the text, name the file's name, f the class file, st the state at the choice, k its
--- place, e its end, w its word.
+-- What the source's rules lead to, the rule of each place, and what a rule does. s is the text, name the file's name, f the class file,
+-- st the state at the choice, k its place, e its end, w its word.
 use Prim.Native.Nat.{ℕ}
 use mathlib.Core.List.{List, _∷_, map}
 use lib.ListN.{getD}

@@ -30,8 +30,11 @@ fn plain_kind(choice: Choice) -> u32
 {
     let k = choice.place;
     match k {
+        // REarly
         1 => early_kind(choice.word),
+        // ROpToken
         36 => kind_at(OP_TOKENS + choice.word),
+        // RMixfix
         50 => kind_at(MIXFIX + choice.word),
         _ => kind_of(k),
     }
@@ -47,19 +50,27 @@ fn plain_payload(at: Cursor, choice: Choice) -> Payload
     let e = choice.end;
     let k = choice.place;
     match k {
+        // RSourceFile
         4 => Payload::Name,
+        // RLine
         5 => Payload::Line(st.line),
+        // RFileLine
         6 => Payload::FileLine(st.line),
+        // RReal
         26 => Payload::Part {
             from: i,
             to: span(1, e),
         },
+        // RBacktickIdent
         32 => Payload::Part {
             from: i + 2,
             to: span(2, e),
         },
+        // ROpToken
         36 => Payload::Text(OP_TOKENS + choice.word),
+        // RLt
         37 => Payload::Text(LESS),
+        // RMixfix
         50 => Payload::Part { from: i, to: e },
         _ => Payload::Part { from: 0, to: 0 },
     }

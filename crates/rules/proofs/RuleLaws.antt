@@ -7,16 +7,16 @@ use mathlib.Core.Bool.{Bool, true, false, not, _&&_, _||_, false≢true}
 use mathlib.Core.List.{List, [], _∷_, map}
 use lib.Dec.{eqb}
 use lib.ListN.{getD, List·getD-map}
-use borrow.Author.Tests.{eqb-true, eqb-false, ne-eqb}
+use borrow.Author.Tests.{eqb-true, ne-eqb}
 use Rattle.definition.specs.Basics.{Bytes, done}
 use Rattle.definition.specs.Chars.{count-up}
 use Rattle.definition.specs.Select.{select}
 use Rattle.definition.specs.State.{advance, new-line}
-use Rattle.definition.specs.Rules.{RAny, place-rules, rule-of as definition-rule}
-use Rattle.definition.specs.Token.{Token-turn, any, by-rule as done-by, act}
+use Rattle.definition.specs.Rules.{RAny, place-rules, chosen-rule}
+use Rattle.definition.specs.Token.{Token-turn, any, by-rule, act}
 use Rattle.definition.specs.declared.Choice.{Choice}
 use Rattle.definition.specs.declared.State.{State}
-use Rattle.lemmas.proofs.Cases.{by-test, both, either}
+use Rattle.lemmas.proofs.Cases.{both, either}
 use Rattle.laws_progress.proofs.Choices.{Fits, select-fits}
 use Rattle.reader.specs.Described.{Known-at, Turns}
 use Rattle.reader.specs.Cursors.{moved, next-line}
@@ -49,22 +49,22 @@ counted n (suc m) (suc k) d h = let q = counted (suc n) m k d (omega arith) in o
 
 module _ (s name f : Bytes) (st : State) where
   -- the definition's rules of all places are those of the table
-  rules-are : (e w : ℕ) → map (done-by s name f st e) (place-rules w) ≡ map (λ (k : ℕ). does s name f (rule-of k) st k e w) (count-up 1 50)
+  rules-are : (e w : ℕ) → map (by-rule s name f st e) (place-rules w) ≡ map (λ (k : ℕ). does s name f (rule-of k) st k e w) (count-up 1 50)
   unfolding place-rules rule-list place-kinds count-up
   rules-are e w = refl
 
   -- what is done with a choice
   act-is : (c : Choice) → c .place < 51 → act s name f st c ≡ does s name f (rule-of (c .place)) st (c .place) (c .end) (c .word)
-  unfolding act definition-rule rule-list
+  unfolding act chosen-rule rule-list
   act-is c h = go (c .place) h
     where
       by : ℕ → Token-turn
       by k = does s name f (rule-of k) st k (c .end) (c .word)
 
-      go : (k : ℕ) → k < 51 → done-by s name f st (c .end) (getD (RAny ∷ place-rules (c .word)) k RAny) ≡ by k
+      go : (k : ℕ) → k < 51 → by-rule s name f st (c .end) (getD (RAny ∷ place-rules (c .word)) k RAny) ≡ by k
       go zero l = refl
       go (suc j) l =
-          sym (List·getD-map (done-by s name f st (c .end)) (place-rules (c .word)) j RAny)
+          sym (List·getD-map (by-rule s name f st (c .end)) (place-rules (c .word)) j RAny)
           ∙ ap (λ (l : List Token-turn). getD l j (any s st)) (rules-are (c .end) (c .word))
           ∙ List·getD-map by (count-up 1 50) j 0
           ∙ ap by (counted 1 50 j 0 (omega arith) ∙ next)
@@ -120,8 +120,8 @@ module _ {s name f : Bytes} {at : Cursor} {c : Choice} (h : Acts s name f at c) 
     pub chose : needs-place r ≡ true → Chose s at (c .end)
     chose z = some-chosen f (h .standing) (h .between) (h .chosen) q z
 
-    pub by-rule : (t : ReadResult) → Turns s name f (does s name f r (at .st) (c .place) (c .end) (c .word)) t → Turns s name f (act s name f (at .st) c) t
-    by-rule t d = act-turns s name f (at .st) c r t (tabled .place) q d
+    pub turns-by-rule : (t : ReadResult) → Turns s name f (does s name f r (at .st) (c .place) (c .end) (c .word)) t → Turns s name f (act s name f (at .st) c) t
+    turns-by-rule t d = act-turns s name f (at .st) c r t (tabled .place) q d
 
   -- the step that an action stands for is what is done
   pub ruled-acts : {r : ActionRule} {x : Action} → rule-of (c .place) ≡ rules.Action r

@@ -1,4 +1,4 @@
--- What is asked where a choice is acted on. s is the text, name the file's name, f the class file, at the place where the reader
+-- What is asked where a choice is acted on. s is the text, name the file's name, f the class file, at the cursor where the reader
 -- stands, c the choice.
 use Prim.Native.Nat.{_≤_, _<_}
 use mathlib.Core.Path.{_≡_}

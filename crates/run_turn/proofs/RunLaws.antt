@@ -28,13 +28,13 @@ use Rattle.reader.specs.Described.{Known-at}
 use Rattle.laws_run.proofs.Items.{step-left}
 use Rattle.laws_run.proofs.Buffers.{words-size}
 use Rattle.run_turn.specs.declared.TurnResult.the-variants.{Stop, Wrote}
-use Rattle.run_turn.specs.Running.{writing, answered, Ran, Kept, Between, Going}
+use Rattle.run_turn.specs.Running.{writing, answered, Ran, WithinBounds, Between, Going}
 
 module _ (s name f : Bytes) (named : length name ≤ 4096) where
   -- an item that was written leaves what was kept
-  written-keeps : (a : Writing) → Kept s a → (a .state .mode ≡ 2 → ⊥) → record-size ≤ length (a .records) - record-size * a .count
+  written-keeps : (a : Writing) → WithinBounds s a → (a .state .mode ≡ 2 → ⊥) → record-size ≤ length (a .records) - record-size * a .count
       → length (step s name f (a .state) .payload) ≤ length (a .payload) - a .used
-      → Kept s (written a (step s name f (a .state))) × (left s (step s name f (a .state) .next) < left s (a .state))
+      → WithinBounds s (written a (step s name f (a .state))) × (left s (step s name f (a .state) .next) < left s (a .state))
   written-keeps a k n room fits =
       let t = step s name f (a .state) in
       let w : length (words (t .item) (a .used)) ≡ 16 = words-size (t .item) (a .used) in
@@ -54,7 +54,7 @@ module _ (s name f : Bytes) (named : length name ≤ 4096) where
       )
 
   -- so does every turn
-  turn-keeps : (a : Writing) → Kept s a → Leads (λ b. Kept s b × (left s (b .state) < left s (a .state))) Any (run-turn s name f a)
+  turn-keeps : (a : Writing) → WithinBounds s a → Leads (λ b. WithinBounds s b × (left s (b .state) < left s (a .state))) Any (run-turn s name f a)
   unfolding run-turn
   turn-keeps a k =
       by-test L (eqb (a .state .mode) 2) (λ _. tt) λ m.
@@ -63,7 +63,7 @@ module _ (s name f : Bytes) (named : length name ≤ 4096) where
       written-keeps a k (eqb-false (a .state .mode) 2 m) room fits
     where
       L : Turn Writing Outcome → Type 0
-      L = Leads (λ b. Kept s b × (left s (b .state) < left s (a .state))) Any
+      L = Leads (λ b. WithinBounds s b × (left s (b .state) < left s (a .state))) Any
 
 -- ---- the loop
 
@@ -104,8 +104,8 @@ pub between-on : {s name f : Bytes} {at : Cursor} {count used : ℕ} {rs : List 
     → Ran s (run-turn s name f (writing at count used rs ps)) count (at .st) (Wrote next used′) rs′ ps′
     → Between s name f next (count + 1) used′ rs′ ps′ × (left s (next .st) < left s (at .st))
 between-on {s} {name} {f} {at} {count} {used} {rs} {ps} b next used′ rs′ ps′ e =
-    let k : Kept s (writing next (count + 1) used′ rs′ ps′) × (left s (next .st) < left s (at .st)) =
-    subst (Leads (λ b. Kept s b × (left s (b .state) < left s (at .st))) Any) (e .0) (turn-keeps s name f (b .named) (writing at count used rs ps) (b .kept)) in
+    let k : WithinBounds s (writing next (count + 1) used′ rs′ ps′) × (left s (next .st) < left s (at .st)) =
+    subst (Leads (λ b. WithinBounds s b × (left s (b .state) < left s (at .st))) Any) (e .0) (turn-keeps s name f (b .named) (writing at count used rs ps) (b .kept)) in
     (record { accepted = b .accepted; named = b .named; kept = k .0; cached = e .1 }, k .1)
 
 -- and what is still to come is what was to come before it

@@ -38,7 +38,7 @@ Ran s t count st (Wrote next used) rs ps = (t ≡ again (writing next (count + 1
 
 -- what holds of a run between two items: the state is sound, the buffers hold what is written, and what may still come fits
 -- numbers of 32 bits, whatever buffers are lent
-pub record Kept (s : Bytes) (a : Writing) : Type 0 where
+pub record WithinBounds (s : Bytes) (a : Writing) : Type 0 where
   pub stands : Stands s (a .state)
   pub begun : record-size * a .count ≤ length (a .records)
   pub filled : a .used ≤ length (a .payload)
@@ -49,7 +49,7 @@ pub record Kept (s : Bytes) (a : Writing) : Type 0 where
 pub record Between (s name f : Bytes) (at : Cursor) (count used : ℕ) (rs : List ℕ) (ps : Bytes) : Type 0 where
   pub accepted : class-check f ≡ 0
   pub named : length name ≤ 4096
-  pub kept : Kept s (writing at count used rs ps)
+  pub kept : WithinBounds s (writing at count used rs ps)
   pub cached : Known-at s (at .st) (at .known)
 
 -- what stands ahead of the reader at `at` is `ahead`, after white space at `here`, unless the reading has ended

@@ -1,7 +1,7 @@
 // The kinds and texts of the tables' entries: `keywords`, `constructors`, `uoperators`, the operator tokens and the mixfix
 // words, one table after the other and each in its order; after them the text of the token `<`, which is in no table.
 // A table is built anew in each function that reads it, so most kinds and lengths are given by a rule for a range of entries,
-// and only what no rule gives is in small tables of bytes. Proved: each kind and text is that of the definition's entry; that
+// and only what no rule gives is in small tables. Proved: each kind and text is that of the definition's entry; that
 // the rules and the tables give what the definition's tables do is computed from them. Assumed: nothing but what each
 // function's `requires` says.
 ghost use mathlib.Core.Path.{_≡_};
@@ -14,37 +14,37 @@ ghost use Rattle.lemmas.specs.Over.{over};
 ghost use Rattle.table_entries.specs.Entries.{entries, texts, starts};
 
 // The kinds of the operators in Unicode, entries 89 to 118.
-const UOPERATOR_KINDS: [u8; 30] = [
-    20,
-    17,
-    119,
-    119,
-    87,
-    86,
-    83,
-    85,
-    84,
-    82,
-    100,
-    68,
-    69,
-    66,
-    99,
-    112,
-    120,
-    121,
-    65,
-    120,
-    122,
-    122,
-    122,
-    122,
-    122,
-    122,
-    123,
-    123,
-    123,
-    123,
+const UOPERATOR_KINDS: [u32; 30] = [
+    definition::kinds::FORALL,
+    definition::kinds::EXISTS,
+    definition::kinds::NAME,
+    definition::kinds::NAME,
+    definition::kinds::IMPLIES,
+    definition::kinds::IFF,
+    definition::kinds::RARROW,
+    definition::kinds::LARROW,
+    definition::kinds::LONG_LEFT_ARROW,
+    definition::kinds::SQUIGGLY_RARROW,
+    definition::kinds::COLON_EQUALS,
+    definition::kinds::CONJUNCTION,
+    definition::kinds::DISJUNCTION,
+    definition::kinds::TILDE,
+    definition::kinds::COLON_COLON,
+    definition::kinds::PIPE_RIGHT,
+    definition::kinds::OPINFIX3L,
+    definition::kinds::OPINFIX0A,
+    definition::kinds::IDENT,
+    definition::kinds::OPINFIX3L,
+    definition::kinds::OPINFIX0C,
+    definition::kinds::OPINFIX0C,
+    definition::kinds::OPINFIX0C,
+    definition::kinds::OPINFIX0C,
+    definition::kinds::OPINFIX0C,
+    definition::kinds::OPINFIX0C,
+    definition::kinds::OPPREFIX,
+    definition::kinds::OPPREFIX,
+    definition::kinds::OPPREFIX,
+    definition::kinds::OPPREFIX,
 ];
 
 // The lengths of the texts 86 to 119, and where each begins among the texts.
@@ -133,13 +133,6 @@ fn wide(x: u8) -> usize
     x as usize
 }
 
-// A byte as a kind.
-fn kind_of_byte(x: u8) -> u32
-    ensures { λ r. ⌜ r ≡ x ⌝ }
-{
-    x as u32
-}
-
 // The kind of entry k: nearly all kinds run along with the places.
 pub fn kind_at(k: usize) -> u32
     requires { ⌜ k < 180 ⌝ }
@@ -152,18 +145,18 @@ pub fn kind_at(k: usize) -> u32
         return k as u32;
     }
     if k < 89 {
-        return 65;
+        return definition::kinds::IDENT;
     }
     if k < 119 {
-        return kind_of_byte(UOPERATOR_KINDS[k - 89]);
+        return UOPERATOR_KINDS[k - 89];
     }
     if k < 172 {
-        return k as u32 - 53;
+        return k as u32 - 119 + definition::kinds::TILDE;
     }
     if k < 176 {
-        return 146;
+        return definition::kinds::OP_MIXFIX_ASSIGNMENT;
     }
-    147
+    definition::kinds::OP_MIXFIX_ACCESS
 }
 
 // How long text k is: nearly all are empty.

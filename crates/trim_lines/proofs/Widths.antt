@@ -26,7 +26,7 @@ module _ (k i b : ℕ) (l : Bytes) where
   unfolding empty-prefix
   prefix-other h q = simp (tests, q, empty-prefix)
 
--- Where more spaces are after than the width, the line leaves the width.
+-- Where more spaces have been passed than the width, the line leaves the width.
 prefix-decided : (k i : ℕ) (l : Bytes) → k < i → empty-prefix k i l ≡ k
 unfolding empty-prefix
 prefix-decided k i [] h = refl
@@ -103,7 +103,7 @@ lines-onto m b ls e = go ls
     go [] = first [] []
     go (l ∷ ls) = first l ls
 
--- A first line with no spaces after is one of the lines.
+-- A first line of which no spaces have been passed is one of the lines.
 lines-all : (k : ℕ) (ls : List Bytes) → trim-width k ls ≡ lines-from (record { width = k; spaces = 0 }) ls
 unfolding trim-width
 lines-all k [] = refl

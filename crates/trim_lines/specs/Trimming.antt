@@ -79,7 +79,7 @@ pub record Room (s : Bytes) (from to width : ℕ) (out : Bytes) : Type 0 where
 abbrev pub Fits : ℕ → ℕ → ℕ → Bytes → Type 0
 Fits left b at out = keeps left b ≡ true → at < length out
 
--- a byte was written to a place of a buffer if it stays, and `after` is the place after it
+-- a byte was written to a place of a buffer if it stays; `place` is the place after it
 pub record Puts (stays : Bool) (b at : ℕ) (before after : Bytes) (place : ℕ) : Type 0 where
   pub bytes : after ≡ elim stays [ true ↦ set before at b | false ↦ before ]
   pub next : place ≡ at + one-if stays

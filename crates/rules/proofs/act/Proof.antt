@@ -1,7 +1,7 @@
 -- Each arm does what its rule does.
 use mathlib.Core.Path.{refl, ap, _∙_}
 use Rattle.rule_table.specs.declared.table.Rule.the-variants.{Reader}
-use Rattle.rules.proofs.RuleLaws.{chose, by-rule}
+use Rattle.rules.proofs.RuleLaws.{chose, turns-by-rule}
 use borrow.Author.Needs.{needs}
 use Rattle.rules.proofs.act.Statement.{statement}
 use Rattle.rules.proofs.act.Tie as tie
@@ -63,37 +63,37 @@ error-here-requires c κs = search needs
 returns : tie.Need-returns
 returns c =
     let p = c .before .before .before .before .before .before .before .before .pre in
-    by-rule (p .0) (p .1 ∙ ap Reader (c .before .enum-told .given .1)) _ (c .fenced .ensures _)
+    turns-by-rule (p .0) (p .1 ∙ ap Reader (c .before .enum-told .given .1)) _ (c .fenced .ensures _)
 
 returns-2 : tie.Need-returns-2
 returns-2 c =
     let p = c .before .before .before .before .before .before .before .before .pre in
-    by-rule (p .0) (p .1 ∙ ap Reader (c .before .enum-told2 .given .1)) _ (c .language .ensures _)
+    turns-by-rule (p .0) (p .1 ∙ ap Reader (c .before .enum-told2 .given .1)) _ (c .language .ensures _)
 
 returns-3 : tie.Need-returns-3
 returns-3 c =
     let p = c .before .before .before .before .before .before .before .before .pre in
-    by-rule (p .0) (p .1 ∙ ap Reader (c .before .enum-told3 .given .1)) _ (c .char-lit .ensures _)
+    turns-by-rule (p .0) (p .1 ∙ ap Reader (c .before .enum-told3 .given .1)) _ (c .char-lit .ensures _)
 
 returns-4 : tie.Need-returns-4
 returns-4 c =
     let p = c .before .before .before .before .before .before .before .before .pre in
-    by-rule (p .0) (p .1 ∙ ap Reader (c .before .enum-told4 .given .1)) _ (c .comment-start .ensures _ _)
+    turns-by-rule (p .0) (p .1 ∙ ap Reader (c .before .enum-told4 .given .1)) _ (c .comment-start .ensures _ _)
 
 returns-5 : tie.Need-returns-5
 returns-5 c =
     let p = c .before .before .before .before .before .before .before .before .pre in
-    by-rule (p .0) (p .1 ∙ ap Reader (c .before .enum-told5 .given .1)) _ (c .slashes .ensures _ _)
+    turns-by-rule (p .0) (p .1 ∙ ap Reader (c .before .enum-told5 .given .1)) _ (c .slashes .ensures _ _)
 
 returns-6 : tie.Need-returns-6
 returns-6 c =
     let p = c .before .before .before .before .before .before .before .before .pre in
-    by-rule (p .0) (p .1 ∙ ap Reader (c .before .enum-told6 .given .1)) _ (c .literal .ensures)
+    turns-by-rule (p .0) (p .1 ∙ ap Reader (c .before .enum-told6 .given .1)) _ (c .literal .ensures)
 
 returns-7 : tie.Need-returns-7
 returns-7 c =
     let p = c .before .before .before .before .before .before .before .before .pre in
-    by-rule (p .0) (p .1 ∙ ap Reader (c .before .enum-told7 .given .1)) _ (c .error-here .ensures _)
+    turns-by-rule (p .0) (p .1 ∙ ap Reader (c .before .enum-told7 .given .1)) _ (c .error-here .ensures _)
 
 pub act-spec : {M : Type 1} → statement M
 act-spec =

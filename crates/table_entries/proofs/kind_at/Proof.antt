@@ -1,6 +1,6 @@
 -- `kind_at` is the kind of the definition's entry: in each range the rule gives what its tables give.
 use Prim.Native.Nat.{ℕ, _+_, _-_}
-use mathlib.Core.Path.{refl, _∙_}
+use mathlib.Core.Path.{refl}
 use mathlib.Core.List.{map}
 use lib.ListN.{getD}
 use Rattle.definition.specs.Kinds.{kind, kind-names, number-from}
@@ -26,11 +26,12 @@ returns-3 c = each-from (λ (k : ℕ). 65) (λ (k : ℕ). kind (entry entries k 
 
 returns-4 : tie.Need-returns-4
 unfolding entries keywords constructors uoperators op-tokens mixfix-rules kind kind-names number-from
-returns-4 c = c .kind-of-byte .ensures ∙ each-from (λ (k : ℕ). getD (map (λ (e : Entry). kind (e .kind)) uoperators) (k - 89) 0) (λ (k : ℕ). kind (entry entries k .kind)) 89 30 refl (c .before .before .before .before .before .args .k) (omega arith) (omega arith)
+returns-4 c =
+    each-from (λ (k : ℕ). getD (map (λ (e : Entry). kind (e .kind)) uoperators) (k - 89) 0) (λ (k : ℕ). kind (entry entries k .kind)) 89 30 refl (c .before .before .before .before .args .k) (omega arith) (omega arith)
 
 returns-5 : tie.Need-returns-5
 unfolding entries keywords constructors uoperators op-tokens mixfix-rules kind kind-names number-from
-returns-5 c = each-from (λ (k : ℕ). k - 53) (λ (k : ℕ). kind (entry entries k .kind)) 119 53 refl (c .before .before .before .before .before .args .k) (omega arith) (omega arith)
+returns-5 c = each-from (λ (k : ℕ). k - 119 + 66) (λ (k : ℕ). kind (entry entries k .kind)) 119 53 refl (c .before .before .before .before .before .args .k) (omega arith) (omega arith)
 
 returns-6 : tie.Need-returns-6
 unfolding entries keywords constructors uoperators op-tokens mixfix-rules kind kind-names number-from
@@ -45,4 +46,4 @@ kind-at-spec =
     tie.close
     (tie.spec
     (λ c. search needs) (λ c. search needs) returns (λ c. search needs) returns-2 returns-3 (λ c. search needs)
-    (λ c κs. search needs) returns-4 (λ c. search needs) (λ c. search needs) returns-5 returns-6 returns-7)
+    (λ c. search needs) returns-4 (λ c. search needs) (λ c. search needs) (λ c. search needs) returns-5 returns-6 returns-7)
