@@ -48,18 +48,7 @@ fn line_end(c: u32, j: usize) -> Match
     Match::Nothing
 }
 
-// The end of an identifier whose first character is c. What follows is decoded at once: it is mostly beyond ASCII too.
-fn ident_after(text: &[u8], file: &[u8], c: u32, j: usize) -> Match
-    requires { ⌜ class-check (now file) ≡ 0 ⌝ }
-    ensures { λ r. ⌜ r ≡ only (is-ident-start c) (To (star (is-ident-char (now (file .entry))) (now (text .entry)) j)) ⌝ }
-{
-    if is_ident_start(c) {
-        return Match::To(ident_decoded(text, file, j));
-    }
-    Match::Nothing
-}
-
-// The end of a constructor whose first character is c.
+// The end of a constructor whose first character is c. What follows is decoded at once: it is mostly beyond ASCII too.
 fn constructor_after(text: &[u8], file: &[u8], c: u32, j: usize) -> Match
     requires { ⌜ class-check (now file) ≡ 0 ⌝ }
     ensures { λ r. ⌜ r ≡ only (is-constructor-start (now (file .entry)) c) (To (star (is-ident-char (now (file .entry))) (now (text .entry)) j)) ⌝ }
@@ -95,7 +84,7 @@ fn quantifier(text: &[u8], ops: &[bool; 128], i: usize, c: u32) -> Choice
     nothing(i)
 }
 
-// A character c from i to j.
+// A character c from i to j. Where it begins an identifier, neither a constructor nor an operator is longer, and both are later.
 pub fn at_beyond_ascii(
     text: &[u8],
     file: &[u8],
@@ -110,7 +99,9 @@ pub fn at_beyond_ascii(
     let mut best = alone(i, 7, white_after(text, file, c, j));
     best = try_place(best, i, 8, line_end(c, j));
     best = keep(best, quantifier(text, ops, i, c));
-    best = try_place(best, i, 14, ident_after(text, file, c, j));
+    if is_ident_start(c) {
+        return try_place(best, i, 14, Match::To(ident_decoded(text, file, j)));
+    }
     best = try_place(best, i, 15, constructor_after(text, file, c, j));
     try_place(best, i, 49, uoperator(file, c, j))
 }
