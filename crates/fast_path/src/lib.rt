@@ -33,19 +33,6 @@ pub struct TokensWritten {
     pub used: usize,
 }
 
-// No more tokens are written: what is answered, put together.
-fn stopped(at: Cursor, here: Cursor, ahead: NextItem, count: usize, used: usize) -> TokensWritten
-    ensures { λ r. ⌜ r ≡ record { at = at; here = here; ahead = ahead; count = count; used = used } ⌝ }
-{
-    TokensWritten {
-        at,
-        here,
-        ahead,
-        count,
-        used,
-    }
-}
-
 // Writes the tokens that stand one after the other from `start` on, between comments, until something else stands ahead, a
 // token whose payload is no short one among it, or a buffer is full.
 pub fn write_tokens(
@@ -64,7 +51,13 @@ pub fn write_tokens(
 {
     let st = start.st;
     if st.mode != 0 {
-        return stopped(start, start, NextItem::InComment, begun, filled);
+        return TokensWritten {
+            at: start,
+            here: start,
+            ahead: NextItem::InComment,
+            count: begun,
+            used: filled,
+        };
     }
     let mut at = start;
     let mut count = begun;
@@ -73,7 +66,13 @@ pub fn write_tokens(
     loop {
         match look(text, classes, ops, symbols, at) {
             Lookahead::Reader { here, choice, rule } => {
-                return stopped(at, here, NextItem::ByReader { choice, rule }, count, used);
+                return TokensWritten {
+                    at: at,
+                    here: here,
+                    ahead: NextItem::ByReader { choice, rule },
+                    count: count,
+                    used: used,
+                };
             }
             Lookahead::Action { here, choice, rule } => {
                 let action = ruled(text, here, choice, rule);
@@ -81,7 +80,13 @@ pub fn write_tokens(
                 match put_action(text, here, action, first, used, plain, records, bytes) {
                     PutResult::Left => {
                         let end = choice.end;
-                        return stopped(at, here, NextItem::ByAction { end, action }, count, used);
+                        return TokensWritten {
+                            at: at,
+                            here: here,
+                            ahead: NextItem::ByAction { end, action },
+                            count: count,
+                            used: used,
+                        };
                     }
                     PutResult::Token {
                         next,

@@ -19,11 +19,8 @@ Inv-loop text classes ops symbols begun filled records₀ bytes₀ at₀ count�
 abbrev μ-loop : tie.MeasureT-loop
 μ-loop text classes ops symbols begun filled records₀ bytes₀ at₀ count₀ used₀ plain₀ records bytes at count used plain = left text (at .st)
 
-stopped-requires : tie.Need-stopped-requires Inv-loop μ-loop
-stopped-requires c κs = search needs
-
 returns : tie.Need-returns Inv-loop μ-loop
-returns c = no-tokens (c .before .before .before .before .before .before .before .before .pre .0) (c .before .if1 .taken) (c .stopped .ensures)
+returns c = no-tokens (c .before .before .before .before .before .before .before .pre .0) (c .if1 .taken) refl
 
 loop-holds : tie.Need-loop-holds Inv-loop μ-loop
 loop-holds c = (tokens-start (c .before .before .before .before .before .before .before .pre .0) (c .if1 .left), refl, refl)
@@ -34,19 +31,16 @@ look-requires c κs = looks-asked (c .loop .inv .0) (c .before .before .before .
 enum-known-here : tie.Need-enum-known-here Inv-loop μ-loop
 enum-known-here c = search needs
 
-stopped-requires-2 : tie.Need-stopped-requires-2 Inv-loop μ-loop
-stopped-requires-2 c κs = search needs
-
 same-length : tie.Need-same-length Inv-loop μ-loop
-same-length c = c .before .before .before .before .before .loop .inv .1
+same-length c = c .before .before .before .before .loop .inv .1
 
 same-length-2 : tie.Need-same-length-2 Inv-loop μ-loop
-same-length-2 c = c .before .before .before .before .before .loop .inv .2
+same-length-2 c = c .before .before .before .before .loop .inv .2
 
 returns-2 : tie.Need-returns-2 Inv-loop μ-loop
 returns-2 c =
-    let sees = rw (c .before .before .here .given .1) at (c .before .before .before .before .look .ensures) in
-    then-reader (c .before .before .before .before .before .loop .inv .0) sees (c .stopped2 .ensures)
+    let sees = rw (c .before .here .given .1) at (c .before .before .before .look .ensures) in
+    then-reader (c .before .before .before .before .loop .inv .0) sees refl
 
 enum-known-here-2 : tie.Need-enum-known-here-2 Inv-loop μ-loop
 enum-known-here-2 c = search needs
@@ -66,21 +60,18 @@ put-action-requires c κs = action-asks (c .before .before .ruled .ensures [] (o
 enum-told : tie.Need-enum-told Inv-loop μ-loop
 enum-told c = search needs
 
-stopped-requires-3 : tie.Need-stopped-requires-3 Inv-loop μ-loop
-stopped-requires-3 c κs = search needs
-
 same-length-3 : tie.Need-same-length-3 Inv-loop μ-loop
-same-length-3 c = c .before .before .before .before .before .before .before .put-action .kept .1 .1 .1 .1 .1 .1 .0 ∙ c .before .before .before .before .before .before .before .before .before .before .before .before .before .before .before .loop .inv .1
+same-length-3 c = c .before .before .before .before .before .before .put-action .kept .1 .1 .1 .1 .1 .1 .0 ∙ c .before .before .before .before .before .before .before .before .before .before .before .before .before .before .loop .inv .1
 
 same-length-4 : tie.Need-same-length-4 Inv-loop μ-loop
-same-length-4 c = c .before .before .before .before .before .before .before .put-action .kept .1 .1 .1 .1 .1 .1 .1 .0 ∙ c .before .before .before .before .before .before .before .before .before .before .before .before .before .before .before .loop .inv .2
+same-length-4 c = c .before .before .before .before .before .before .put-action .kept .1 .1 .1 .1 .1 .1 .1 .0 ∙ c .before .before .before .before .before .before .before .before .before .before .before .before .before .before .loop .inv .2
 
 returns-3 : tie.Need-returns-3 Inv-loop μ-loop
 returns-3 c =
-    let p = c .before .before .before .before .before .before .before in
+    let p = c .before .before .before .before .before .before in
     let l = p .before .before .before .before .before .before .before .before in
     let sees = rw (p .before .before .before .before .before .here2 .given .1) at (p .before .before .before .before .before .before .before .look .ensures) in
-    then-action (l .loop .inv .0) sees (p .before .before .before .ruled .ensures) (rw (c .before .enum-told .given .1) at (p .put-action .ensures)) (c .stopped3 .ensures)
+    then-action (l .loop .inv .0) sees (p .before .before .before .ruled .ensures) (rw (c .enum-told .given .1) at (p .put-action .ensures)) refl
 
 enum-known-next : tie.Need-enum-known-next Inv-loop μ-loop
 enum-known-next c = search needs
@@ -108,12 +99,10 @@ write-tokens-spec =
     (tie.spec
     Inv-loop
     μ-loop
-    stopped-requires
     returns
     loop-holds
     look-requires
     enum-known-here
-    stopped-requires-2
     same-length
     same-length-2
     returns-2
@@ -122,7 +111,6 @@ write-tokens-spec =
     mul-first
     put-action-requires
     enum-told
-    stopped-requires-3
     same-length-3
     same-length-4
     returns-3
