@@ -31,7 +31,7 @@ error-number (Blob n p q) = 0
 error-number (LexError n p q) = n
 error-number (Comment b) = 0
 
--- a call of `next_token` gives an ERROR of this number
+-- a call of `next_token` gives an ERROR of the number n, which is not 0 (that of an item that is no ERROR)
 abbrev pub Gives-error : ℕ → Token-turn → Type 0
 Gives-error n (again next) = ⊥
 Gives-error n (done t) = error-number (t .item .extra) ≡ n
