@@ -48,7 +48,7 @@ ERRORS = {
     4: "out-of-range character literal",
     5: "not a valid numeric literal",
     6: "unexpected char",
-    7: "surrogate",
+    7: "unpaired surrogate",
 }
 
 # A record's word 0, and word 9 of a token and of a comment.

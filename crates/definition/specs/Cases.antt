@@ -1,5 +1,6 @@
--- The table of document 01's twelve lines marked (M): each text with the items that the line states; and two texts more.
--- proofs/Cases.antt computes that the definition gives them. Texts start at 1:0, with the class file of no ranges.
+-- The table of document 01's twelve lines marked (M): each text with the items that the line states; two texts more; and the table of
+-- surrogates, after document 02, K1. proofs/Cases.antt computes that the definition gives them. Texts start at 1:0, with the class file of
+-- no ranges.
 use Prim.Native.Nat.{ℕ}
 use Prim.Native.String.{String}
 use mathlib.Core.Bool.{Bool, true, false}
@@ -48,6 +49,14 @@ character l₁ c₁ l₂ c₂ code = item 1 (kind "CHAR") l₁ c₁ l₂ c₂ 0 
 -- an error at 1:0 with a range from there to the column given: its number and its payload
 abbrev pub error : ℕ → ℕ → String → Listed-item
 error number to payload = item 1 (kind "ERROR") 1 0 1 0 (length (cps payload)) 0 (3 ∷ number ∷ 1 ∷ 0 ∷ 1 ∷ to ∷ 0 ∷ []) payload
+
+-- an error on line 1 that is empty, as its range is: its number and its column
+abbrev pub error-at : ℕ → ℕ → Listed-item
+error-at number col = item 1 (kind "ERROR") 1 col 1 col 0 0 (3 ∷ number ∷ 1 ∷ col ∷ 1 ∷ col ∷ 0 ∷ []) ""
+
+-- a string from 1:0 up to the column given: its payload, byte by byte
+abbrev pub a-string : ℕ → Bytes → Listed-item
+a-string to bytes = item 1 (kind "STRING") 1 0 1 to (length bytes) 0 no-extra "" ++ bytes
 
 -- a blob: its range, its name, the position after its header, its header's start, its contents
 abbrev pub a-blob : ℕ → ℕ → ℕ → ℕ → String → ℕ → ℕ → ℕ → ℕ → String → Listed-item
@@ -118,6 +127,54 @@ unfoldable pub misreading-cases : List Case
 misreading-cases =
     ("αx 1", token "IDENT" 1 0 1 2 0 "αx" ∷ token "INT" 1 3 1 4 0 "1" ∷ eof 1 4 0 ∷ [])
     ∷ ("lets", token "IDENT" 1 0 1 4 0 "lets" ∷ eof 1 4 0 ∷ [])
+    ∷ []
+
+-- ---- surrogates, by document 02, K1
+
+-- U+1F600
+abbrev pub emoji : Bytes
+emoji = 0xF0 ∷ 0x9F ∷ 0x98 ∷ 0x80 ∷ []
+
+unfoldable pub surrogate-cases : List Case
+surrogate-cases =
+    -- "`\u` D800 to DBFF followed at once by `\u` DC00 to DFFF is one character: `\uD83D\uDE00` is U+1F600", in either case of the digits
+    ("\"\\uD83D\\uDE00\"", a-string 14 emoji ∷ eof 1 14 0 ∷ [])
+    ∷ ("\"\\ud83d\\ude00\"", a-string 14 emoji ∷ eof 1 14 0 ∷ [])
+    ∷ ("\"\\ud83D\\uDe00\"", a-string 14 emoji ∷ eof 1 14 0 ∷ [])
+    ∷ ("\"a\\uD83D\\uDE00\\uD83D\\uDE00b\"", a-string 28 (97 ∷ (emoji ++ (emoji ++ (98 ∷ [])))) ∷ eof 1 28 0 ∷ [])
+    -- the least pair, the greatest, and the two between
+    ∷ ("\"\\uD800\\uDC00\"", a-string 14 (0xF0 ∷ 0x90 ∷ 0x80 ∷ 0x80 ∷ []) ∷ eof 1 14 0 ∷ [])
+    ∷ ("\"\\uDBFF\\uDFFF\"", a-string 14 (0xF4 ∷ 0x8F ∷ 0xBF ∷ 0xBF ∷ []) ∷ eof 1 14 0 ∷ [])
+    ∷ ("\"\\uD800\\uDFFF\"", a-string 14 (0xF0 ∷ 0x90 ∷ 0x8F ∷ 0xBF ∷ []) ∷ eof 1 14 0 ∷ [])
+    ∷ ("\"\\uDBFF\\uDC00\"", a-string 14 (0xF4 ∷ 0x8F ∷ 0xB0 ∷ 0x80 ∷ []) ∷ eof 1 14 0 ∷ [])
+    -- "Error 7 remains for an unpaired half, at its own backslash": a high half before another, a half too many, a low half by itself, and
+    -- the halves the wrong way round
+    ∷ ("\"\\uD83D\\uD83D\\uDE00\"", error-at 7 1 ∷ [])
+    ∷ ("\"\\uD83D\\uDE00\\uDE00\"", error-at 7 13 ∷ [])
+    ∷ ("\"\\uD83D\\uDE00\\uD83D\"", error-at 7 13 ∷ [])
+    ∷ ("\"\\uDE00\"", error-at 7 1 ∷ [])
+    ∷ ("\"\\uDE00\\uD83D\"", error-at 7 1 ∷ [])
+    -- no low half after the high one, by one to either side, or by its digits
+    ∷ ("\"\\uD83D\\uDBFF\"", error-at 7 1 ∷ [])
+    ∷ ("\"\\uD83D\\uE000\"", error-at 7 1 ∷ [])
+    ∷ ("\"\\uD83D\\uDE0\"", error-at 7 1 ∷ [])
+    ∷ ("\"\\uD83D\\xDE00\"", error-at 7 1 ∷ [])
+    -- a low half, but not at once: an escaped backslash, a blank, a backslash and a line's end
+    ∷ ("\"\\uD83D\\\\uDE00\"", error-at 7 1 ∷ [])
+    ∷ ("\"\\uD83D \\uDE00\"", error-at 7 1 ∷ [])
+    ∷ ("\"\\uD83D\\\n\\uDE00\"", error-at 7 1 ∷ [])
+    -- the text ends after the high half, or in the middle of the second escape: not error 1
+    ∷ ("\"\\uD83D", error-at 7 1 ∷ [])
+    ∷ ("\"\\uD83D\\", error-at 7 1 ∷ [])
+    ∷ ("\"\\uD83D\\u", error-at 7 1 ∷ [])
+    ∷ ("\"\\uD83D\\uDE0", error-at 7 1 ∷ [])
+    -- and after the pair: error 1
+    ∷ ("\"\\uD83D\\uDE00", error-at 1 13 ∷ [])
+    -- below and above the surrogates
+    ∷ ("\"\\uD7FF\\uE000\"", a-string 14 (0xED ∷ 0x9F ∷ 0xBF ∷ 0xEE ∷ 0x80 ∷ 0x80 ∷ []) ∷ eof 1 14 0 ∷ [])
+    -- "Character literals keep their one-escape pattern"
+    ∷ ("'\\uD83D'", character 1 0 1 8 0xD83D ∷ eof 1 8 0 ∷ [])
+    ∷ ("'\\uD83D\\uDE00'", token "IDENT" 1 0 1 1 0 "'" ∷ error-at 6 1 ∷ [])
     ∷ []
 
 -- ---- the texts and the items of such a table

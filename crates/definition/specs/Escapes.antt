@@ -1,5 +1,5 @@
--- Characters after a backslash: `unescape` and `string_of_cp`.
-use Prim.Native.Nat.{ℕ, _+_}
+-- Characters after a backslash: `unescape` and `string_of_cp`; surrogates.
+use Prim.Native.Nat.{ℕ, _+_, _-_, _*_}
 use mathlib.Core.Bool.{Bool, true, false}
 use Rattle.definition.specs.Basics.{Bytes, ch, between, if_then_else_}
 use Rattle.definition.specs.Utf8.{sequence-at, encode}
@@ -33,10 +33,22 @@ unescape s i =
           code-at s (i + 1)
     ]
 
--- a number that `\u` can give and that is no character: document 01's error 7
-unfoldable pub is-surrogate : ℕ → Bool
-is-surrogate c = between 0xD800 0xDFFF c
-
 -- `string_of_cp`, of a character
 abbrev pub string-of-cp : ℕ → Bytes
 string-of-cp c = encode c
+
+-- ---- surrogates: numbers that `\u`, and no other escape, can give and that are no characters. Document 01 has each in a string as
+-- error 7; document 02, K1, joins a high half, D800 to DBFF, and a low half, DC00 to DFFF, to one character
+
+unfoldable pub is-surrogate : ℕ → Bool
+is-surrogate c = between 0xD800 0xDFFF c
+
+unfoldable pub is-high-half : ℕ → Bool
+is-high-half c = between 0xD800 0xDBFF c
+
+unfoldable pub is-low-half : ℕ → Bool
+is-low-half c = between 0xDC00 0xDFFF c
+
+-- the character of a high and a low half: "`\uD83D\uDE00` is U+1F600"
+abbrev pub joined : ℕ → ℕ → ℕ
+joined h l = 0x10000 + (h - 0xD800) * 1024 + (l - 0xDC00)

@@ -12,7 +12,7 @@ use Rattle.definition.specs.Tables.{cps}
 use Rattle.definition.specs.State.{state-words, no-pos, started, sound, start}
 use Rattle.definition.specs.Item.{mark}
 use Rattle.definition.specs.Run.{Outcome, text-too-long, name-too-long, refusal, run}
-use Rattle.definition.specs.Cases.{no-ranges, eof, a-comment}
+use Rattle.definition.specs.Cases.{no-ranges, eof, error-at, a-comment}
 use Rattle.definition.specs.Listed.{said, listed}
 use Rattle.definition.specs.declared.State.{State}
 
@@ -301,6 +301,11 @@ stop-rows = (
     ∷ ("no room at all: the state given", answer (run-on ab (started 1 0) 0 0), 0 ∷ 0 ∷ 1 ∷ 0 ∷ at-line-1 0 0)
     ∷ ("white before an unwritten item is not in the state", answer (run-on (cps ";     a") (started 1 0) 16 9), 0 ∷ 0 ∷ 1 ∷ 1 ∷ at-line-1 1 0)
     ∷ ("at the text's end in mode 0 the end is still to be written", answer (run-on [] (started 1 0) 15 0), 0 ∷ 0 ∷ 1 ∷ 0 ∷ at-line-1 0 0)
+    ∷ (
+      "error 7 ends at its own backslash, and nothing of its string is written",
+      all-of (run-on (cps "\"a\\uD83D\\uDE00\\uDE00\"") (started 1 0) 16 5),
+      0 ∷ 0 ∷ 0 ∷ 1 ∷ (at-line-1 14 2 ++ (error-at 7 14 ++ replicate 5 7)),
+    )
     ∷ ("mode 2 gives no items, with room", answer (run-on ab (in-mode 2 0 0) 48 9), 0 ∷ 0 ∷ 0 ∷ 0 ∷ 3 ∷ 1 ∷ 0 ∷ 0 ∷ 0 ∷ 2 ∷ 0 ∷ 0 ∷ 0 ∷ [])
     ∷ ("mode 2 gives no items, without room", answer (run-on ab (in-mode 2 0 0) 0 0), 0 ∷ 0 ∷ 0 ∷ 0 ∷ 3 ∷ 1 ∷ 0 ∷ 0 ∷ 0 ∷ 2 ∷ 0 ∷ 0 ∷ 0 ∷ [])
     ∷ []

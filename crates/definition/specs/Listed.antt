@@ -94,11 +94,11 @@ use Rattle.definition.specs.Numbers.{
   int-of-string,
   show,
 }
-use Rattle.definition.specs.Escapes.{code-at, hex-value, unescape, is-surrogate}
+use Rattle.definition.specs.Escapes.{code-at, hex-value, unescape, is-surrogate, is-high-half, is-low-half}
 use Rattle.definition.specs.Trim.{onto-first, split-lines, join-lines, empty-prefix, trim-width, maybe-trim-lines}
 use Rattle.definition.specs.State.{close-comment, at-character, offsets-sound, counts-sound, depth-sound, comment-sound, sound, start}
 use Rattle.definition.specs.Comment.{comment-stop, comment, line-comment}
-use Rattle.definition.specs.Strings.{string-stop, escape-turn, string-lit}
+use Rattle.definition.specs.Strings.{string-stop, match-low-half, escape-turn, string-lit}
 use Rattle.definition.specs.Blob.{blob-stop, blob, use-lang}
 use Rattle.definition.specs.Token.{starts-with, act, token-turn, next-token, step}
 use Rattle.definition.specs.Run.{put, run-turn, run-items, text-too-long, name-too-long, refusal, run}
@@ -141,9 +141,9 @@ unfolding
     match-char match-char-lit match-integer match-xinteger any-integer-ends match-int-suffix match-int-usuffix match-floatp skip-sign is-e
     match-floate match-real match-bad-number match-backtick-ident no-comment keep try-words try-all one-of-then-symbols lit-then-symbols
     places select strips strip-left strip-if-last strip-right clean-number digit-value value-from base-of after-zero int-of-string show code-at
-    hex-value unescape is-surrogate onto-first split-lines join-lines empty-prefix trim-width maybe-trim-lines close-comment at-character
-    offsets-sound counts-sound depth-sound comment-sound sound start after comment-stop comment line-comment string-stop escape-turn
-    string-lit blob-stop blob use-lang place-rules chosen-rule starts-with act token-turn next-token step put run-turn run-items text-too-long
-    name-too-long refusal run
+    hex-value unescape is-surrogate is-high-half is-low-half onto-first split-lines join-lines empty-prefix trim-width maybe-trim-lines
+    close-comment at-character offsets-sound counts-sound depth-sound comment-sound sound start after comment-stop comment line-comment
+    string-stop match-low-half escape-turn string-lit blob-stop blob use-lang place-rules chosen-rule starts-with act token-turn next-token
+    step put run-turn run-items text-too-long name-too-long refusal run
 listed text classes =
     said (run text (cps "stdin") classes (started 1 0) (replicate (record-size * (length text + 1)) 0) (replicate (4 * length text) 0))

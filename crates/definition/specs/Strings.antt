@@ -10,23 +10,32 @@ use Rattle.definition.specs.Chars.{is-newline-char, is-anywhite}
 use Rattle.definition.specs.Position.{cur-pos}
 use Rattle.definition.specs.Kinds.{kind}
 use Rattle.definition.specs.Matchers.{only, match-newline, match-escape}
-use Rattle.definition.specs.Escapes.{unescape, is-surrogate, string-of-cp}
+use Rattle.definition.specs.Escapes.{unescape, string-of-cp, is-surrogate, is-high-half, is-low-half, joined}
 use Rattle.definition.specs.State.{advance, new-line}
 use Rattle.definition.specs.Item.{Step, tok, error-here}
 use Rattle.definition.specs.declared.Pos.{Pos}
 use Rattle.definition.specs.declared.State.{State}
 use Rattle.definition.specs.declared.Extra.the-variants.{NoExtra}
+use Rattle.definition.specs.declared.Match.{Match}
 use Rattle.definition.specs.declared.Match.the-variants.{To, Nothing}
 
 unfoldable pub string-stop : ℕ → Bool
 string-stop c = eqb c (ch "\\") || (eqb c (ch "\"") || is-newline-char c)
 
--- an escape that ends at e. A surrogate is error 7, "its position and both ends of its range at the backslash", where st stands
+-- the escape of a low half
+unfoldable pub match-low-half : Bytes → ℕ → Match
+match-low-half s i = only (is-low-half (unescape s i)) (match-escape s i)
+
+-- an escape that ends at e. "In a string, `\u` D800 to DBFF followed at once by `\u` DC00 to DFFF is one character." Any other surrogate
+-- is error 7, "its position and both ends of its range at the backslash", which is "its own": there st stands
 unfoldable pub escape-turn : Bytes → State → Bytes → ℕ → Turn (State × Bytes) Step
 escape-turn s st acc e =
     let c = unescape s (st .offset) in
     elim (is-surrogate c) [
-      | true ↦ done (error-here s st 7)
+      | true ↦ elim (only (is-high-half c) (match-low-half s e)) [
+        | To pair-end ↦ again (advance st pair-end, acc ++ string-of-cp (joined c (unescape s e)))
+        | Nothing ↦ done (error-here s st 7)
+      ]
       | false ↦ again (advance st e, acc ++ string-of-cp c)
     ]
 

@@ -1,15 +1,16 @@
 // The characters that escapes denote, and surrogates.
-// Proved: each public function answers what the definition's `unescape` or `is-surrogate` says; `unescape` at any offset of
-// any bytes.
-// Assumed: nothing.
+// Proved: each public function answers what the definition's function of its name says; `unescape` at any offset of any
+// bytes.
+// Assumed: nothing but what `joined` requires: its numbers are the halves of a pair.
 use definition::Octet;
 use definition::Sequence;
 use number_value::digit_value;
 use utf8::characters::byte;
 use utf8::sequence_at;
 ghost use mathlib.Core.Path.{_≡_};
-ghost use Rattle.definition.specs.Escapes.{code-at, hex-value, unescape, is-surrogate};
-ghost use Rattle.escapes.specs.Contracts.{Digits, ByteFollows, escaped};
+ghost use Rattle.definition.specs.Basics.{between as between-codes};
+ghost use Rattle.definition.specs.Escapes.{code-at, hex-value, unescape, is-surrogate, is-high-half, is-low-half, joined};
+ghost use Rattle.escapes.specs.Contracts.{Digits, ByteFollows, escaped, Halves};
 
 // The code point at i, 0 where no character stands.
 fn code_at(text: &[u8], i: usize) -> u32
@@ -74,12 +75,38 @@ pub fn unescape(text: &[u8], i: usize) -> u32
     escaped(text, i, c)
 }
 
+// c is one of the numbers from `first` to `last`.
+fn between(first: u32, last: u32, c: u32) -> bool
+    ensures { λ r. ⌜ r ≡ between-codes first last c ⌝ }
+{
+    first <= c && c <= last
+}
+
 // A number that `\u` can give and that is no character.
 pub fn is_surrogate(c: u32) -> bool
     ensures { λ r. ⌜ r ≡ is-surrogate c ⌝ }
 {
-    if c < 0xD800 {
-        return false;
-    }
-    c <= 0xDFFF
+    between(0xD800, 0xDFFF, c)
+}
+
+// The first of the two that are one character.
+pub fn is_high_half(c: u32) -> bool
+    ensures { λ r. ⌜ r ≡ is-high-half c ⌝ }
+{
+    between(0xD800, 0xDBFF, c)
+}
+
+// The second of them.
+pub fn is_low_half(c: u32) -> bool
+    ensures { λ r. ⌜ r ≡ is-low-half c ⌝ }
+{
+    between(0xDC00, 0xDFFF, c)
+}
+
+// The character that two halves are.
+pub fn joined(high: u32, low: u32) -> u32
+    requires { ⌜ Halves high low ⌝ }
+    ensures { λ r. ⌜ r ≡ joined high low ⌝ }
+{
+    0x10000 + (high - 0xD800) * 1024 + (low - 0xDC00)
 }

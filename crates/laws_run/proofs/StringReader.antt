@@ -15,10 +15,10 @@ use Rattle.definition.specs.Chars.{is-newline-char, is-anywhite}
 use Rattle.definition.specs.Kinds.{kind}
 use Rattle.definition.specs.Position.{cur-pos}
 use Rattle.definition.specs.Matchers.{only, one, match-newline, match-escape}
-use Rattle.definition.specs.Escapes.{unescape, is-surrogate}
+use Rattle.definition.specs.Escapes.{unescape, is-surrogate, is-high-half, is-low-half, joined}
 use Rattle.definition.specs.State.{advance, new-line}
 use Rattle.definition.specs.Item.{Step, tok, error-here}
-use Rattle.definition.specs.Strings.{string-stop, escape-turn, string-turn, string-lit}
+use Rattle.definition.specs.Strings.{string-stop, match-low-half, escape-turn, string-turn, string-lit}
 use Rattle.definition.specs.declared.Pos.{Pos}
 use Rattle.definition.specs.declared.State.{State}
 use Rattle.definition.specs.declared.Extra.the-variants.{NoExtra}
@@ -98,14 +98,13 @@ module _ (s : Bytes) where
 
     -- a turn of `string-lit`
     pub string-leads : (a : State × Bytes) → Leads (Grows a) (StringEnd (a .0) (a .1)) (string-turn s f sp a)
-    unfolding escape-turn
+    unfolding match-low-half escape-turn
     string-leads a =
         by-lt L i j (λ h. grows-by-part st (advance st j) acc (goes-on st (walk-past (star-walks _ s i) h))) λ run.
         by-match L (only (byte-is (ch "\\") s i) (match-newline s (i + 1)))
         (λ nl q. record { goes = goes-line st (onward-walk (broken .at q) (star-walks (is-anywhite f) s nl)); more = omega arith }) λ _.
         by-match L (match-newline s i) (λ nl q. grows-by-part st (new-line (advance st nl)) acc (goes-line st (newline-ends s i .at q))) λ no-newline.
-        by-match L (match-escape s i) (λ e q. by-test L (is-surrogate (unescape s i)) (λ _. fails 7 (λ n. absurd (omega arith)))
-        (λ _. escaped e (escape-ends s i .at q))) λ _.
+        by-match L (match-escape s i) (λ e q. escape-leads e (escape-ends s i .at q)) λ _.
         by-test L (byte-is (ch "\"") s i) (λ t. quote (byte-is-onward s (ch "\"") i (omega arith) t)) λ _.
         by-le L (length s) i (λ _. fails 1 (λ n. absurd (omega arith))) λ h.
         grows-by-part st (advance st (i + 1)) acc record {
@@ -133,11 +132,22 @@ module _ (s : Bytes) where
         broken = ends-only (byte-is (ch "\\") s i) (λ t. after-walk s (byte-is-onward s (ch "\\") i (omega arith) t .walk) (newline-ends s (i + 1)))
 
         -- a character is at most 4 bytes
-        escaped : (e : ℕ) → Onward s i e → Grows a (advance st e, acc ++ encode (unescape s i))
-        escaped e o = record {
-          goes = goes-on st o;
-          more = omega (arith, length-append acc (encode (unescape s i)), encode-size (unescape s i) .1, o .past);
-        }
+        escaped : (c e : ℕ) → Onward s i e → Grows a (advance st e, acc ++ encode c)
+        escaped c e o = record { goes = goes-on st o; more = omega (arith, length-append acc (encode c), encode-size c .1, o .past) }
+
+        -- the escape of a low half, after what ends at e
+        low-half : (e : ℕ) → Onward s i e → Ends (Onward s i) (match-low-half s e)
+        low-half e o = ends-only (is-low-half (unescape s e)) (λ _. after-walk s (o .walk) (escape-ends s e))
+
+        -- an escape, or a pair of them
+        escape-leads : (e : ℕ) → Onward s i e → L (escape-turn s st acc e)
+        escape-leads e o =
+            let c = unescape s i in
+            by-test L (is-surrogate c)
+            (λ _. by-match L (only (is-high-half c) (match-low-half s e))
+            (λ pair-end q. escaped (joined c (unescape s e)) pair-end (ends-only (is-high-half c) (λ _. low-half e o) .at q))
+            (λ _. fails 7 (λ n. absurd (omega arith))))
+            (λ _. escaped c e o)
 
     -- each turn reads something
     pub string-falls : Falls (string-turn s f sp) (λ a. Any (a .0)) (λ a. rest s (a .0 .offset)) Any

@@ -1,21 +1,24 @@
 -- Where what stands in a literal ends: after its start, and within the text; and what it adds is no longer than it is. Rests on
 -- the ends of matchers and runs (crate `laws_progress`) and on what escapes stand for.
-use Prim.Native.Nat.{ℕ, _+_}
+use Prim.Native.Nat.{ℕ, _+_, _-_, _<_}
 use mathlib.Core.Path.{_≡_}
 use native.Mathlib.Omega.{arith}
 use lib.ListN.{length}
 use Rattle.definition.specs.Basics.{Bytes, ch}
 use Rattle.definition.specs.Text.{byte-is, run-end}
 use Rattle.definition.specs.Chars.{is-anywhite}
-use Rattle.definition.specs.Matchers.{match-newline, match-escape}
-use Rattle.definition.specs.Escapes.{unescape, is-surrogate}
-use Rattle.definition.specs.Strings.{string-stop}
+use Rattle.definition.specs.Matchers.{only, match-newline, match-escape}
+use Rattle.definition.specs.Escapes.{unescape, is-surrogate, is-high-half, is-low-half, joined}
+use Rattle.definition.specs.Strings.{string-stop, match-low-half}
 use Rattle.definition.specs.declared.Match.the-variants.{To}
 use Rattle.lemmas.proofs.Cases.{by-test, by-lt, by-le, by-match}
-use Rattle.laws_progress.proofs.Walks.{Onward, walk-past, onward-walk, star-walks}
-use Rattle.laws_progress.proofs.Ends.{Ends, ends-only}
+use Rattle.utf8.proofs.Character.{encode-size}
+use Rattle.laws_progress.proofs.Walks.{Onward, walk-past, walk-onward, onward-walk, star-walks}
+use Rattle.laws_progress.proofs.Ends.{Ends, ends-map, ends-only}
 use Rattle.laws_progress.proofs.Matches.{after-walk, byte-is-onward, newline-ends, escape-ends}
-use Rattle.read_string.specs.Moves.{escape-move, last-move, stop-move, broken-line, string-move}
+use Rattle.escapes.proofs.Surrogates.{joined-small, surrogate-bytes}
+use Rattle.read_string.specs.declared.moves.Move.the-variants.{Char}
+use Rattle.read_string.specs.Moves.{surrogate-move, escape-move, last-move, stop-move, broken-line, string-move}
 use Rattle.read_string.specs.Ends.{Past, Goes}
 use Rattle.read_string.proofs.EscapeLaws.{escape-shrinks}
 
@@ -24,13 +27,29 @@ module _ (s : Bytes) (i : ℕ) where
   onward-past : {e : ℕ} → Onward s i e → Past s i e
   onward-past o = record { past = o .past; within = o .within }
 
+  -- four bytes or more, which are the escape of c, and the escape of a low half after them: more than the four bytes of a character
+  pair-goes : (c e : ℕ) → Onward s i e → 3 < e - i
+      → Ends (λ pair-end. Goes s i (Char (joined c (unescape s e)) pair-end)) (only (is-high-half c) (match-low-half s e))
+  unfolding match-low-half
+  pair-goes c e o long =
+      ends-only (is-high-half c) λ high.
+      ends-only (is-low-half (unescape s e)) λ low.
+      ends-map (λ pair-end p. (
+        onward-past (walk-onward (o .walk) p),
+        record { small = joined-small (record { high = high; low = low }); fewer = omega (arith, encode-size (joined c (unescape s e)) .1, p .past) },
+      )) (escape-ends s e)
+
   -- an escape
   escape-goes : (e : ℕ) → match-escape s i ≡ To e → Goes s i (escape-move s i e)
-  unfolding escape-move
+  unfolding escape-move surrogate-move
   escape-goes e q =
+      let c = unescape s i in
+      let o = escape-ends s i .at q in
       let h = escape-shrinks s i .at q in
-      by-test (Goes s i) (is-surrogate (unescape s i)) (λ _. tt)
-      (λ _. (onward-past (escape-ends s i .at q), record { small = h .small; fewer = h .fewer }))
+      by-test (Goes s i) (is-surrogate c)
+      (λ t. by-match (Goes s i) (only (is-high-half c) (match-low-half s e))
+      (λ pair-end p. pair-goes c e o (omega (arith, h .fewer, surrogate-bytes c t)) .at p) (λ _. tt))
+      (λ _. (onward-past o, record { small = h .small; fewer = h .fewer }))
 
   -- the quote, the text's end, or a lone byte
   last-goes : Goes s i (last-move s i)

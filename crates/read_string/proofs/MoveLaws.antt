@@ -1,6 +1,6 @@
 -- What stands at an offset of a literal, from what the code found there. Rests on the laws of bytes and of runs.
 use Prim.Native.Nat.{ℕ, _+_, _≤_, _<_}
-use mathlib.Core.Path.{_≡_, sym, ap}
+use mathlib.Core.Path.{_≡_, sym, ap, _∙_}
 use mathlib.Core.Bool.{true, false}
 use lib.Dec.{eqb}
 use lib.ListN.{length, getD}
@@ -9,24 +9,51 @@ use Rattle.definition.specs.Basics.{Bytes, ch}
 use Rattle.definition.specs.Text.{byte-is, star, run-end}
 use Rattle.definition.specs.Chars.{is-anywhite}
 use Rattle.definition.specs.Matchers.{match-newline, match-escape}
-use Rattle.definition.specs.Escapes.{unescape, is-surrogate}
-use Rattle.definition.specs.Strings.{string-stop}
+use Rattle.definition.specs.Escapes.{unescape, is-surrogate, is-high-half, is-low-half, joined}
+use Rattle.definition.specs.Strings.{string-stop, match-low-half}
 use Rattle.definition.specs.declared.Match.{Match}
 use Rattle.definition.specs.declared.Match.the-variants.{To, Nothing}
+use Rattle.lemmas.proofs.Cases.{by-outcome}
 use Rattle.star.specs.Stops.{goes-on}
 use Rattle.match_lit.proofs.ByteLaws.{has-within, has-past}
 use Rattle.read_string.specs.declared.moves.Move.{Move}
 use Rattle.read_string.specs.declared.moves.Move.the-variants.{Copy, Skip, Line, Char, Surrogate, Close, Open}
-use Rattle.read_string.specs.Moves.{escape-move, last-move, stop-move, broken-line, string-move}
+use Rattle.read_string.specs.Moves.{surrogate-move, escape-move, last-move, stop-move, broken-line, string-move}
+
+-- ---- the surrogate c, whose escape ends at e
+
+module _ (s : Bytes) (c e : ℕ) where
+  -- no high half
+  pub surrogate-not-high : is-high-half c ≡ false → Surrogate ≡ surrogate-move s c e
+  unfolding surrogate-move
+  surrogate-not-high t = rw (surrogate-move, t)
+
+  module _ (high : is-high-half c ≡ true) where
+    -- no escape after it
+    pub surrogate-last : match-escape s e ≡ Nothing → Surrogate ≡ surrogate-move s c e
+    unfolding surrogate-move match-low-half
+    surrogate-last q =
+        by-outcome (is-low-half (unescape s e)) (λ t. rw (surrogate-move, high, match-low-half, t, q)) (λ t. rw (surrogate-move, high, match-low-half, t))
+
+    -- no low half after it
+    pub surrogate-not-low : {l : ℕ} → l ≡ unescape s e → is-low-half l ≡ false → Surrogate ≡ surrogate-move s c e
+    unfolding surrogate-move match-low-half
+    surrogate-not-low q t = rw (surrogate-move, high, match-low-half, ← q, t)
+
+    -- a low half after it
+    pub surrogate-pair : {l n pair-end : ℕ} → match-escape s e ≡ To pair-end → l ≡ unescape s e → is-low-half l ≡ true → n ≡ joined c l
+        → Char n pair-end ≡ surrogate-move s c e
+    unfolding surrogate-move match-low-half
+    surrogate-pair {pair-end = end} m q t j = rw (surrogate-move, high, match-low-half, ← q, t, m) (ap (λ (x : ℕ). Char x end) (j ∙ ap (joined c) q))
 
 module _ (s : Bytes) (i : ℕ) where
   -- ---- an escape
 
   module _ {c : ℕ} (e : ℕ) (q : c ≡ unescape s i) where
     -- of a surrogate
-    pub escape-surrogate : is-surrogate c ≡ true → Surrogate ≡ escape-move s i e
+    pub escape-surrogate : {m : Move} → is-surrogate c ≡ true → m ≡ surrogate-move s c e → m ≡ escape-move s i e
     unfolding escape-move
-    escape-surrogate t = rw (escape-move, ← q, t)
+    escape-surrogate t h = rw (escape-move, ← q, t) (h ∙ ap (λ (x : ℕ). surrogate-move s x e) q)
 
     -- of a character
     pub escape-char : is-surrogate c ≡ false → Char c e ≡ escape-move s i e

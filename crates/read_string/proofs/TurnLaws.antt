@@ -4,18 +4,18 @@ use lib.Dec.{ltb, leb}
 use lib.ListN.{length}
 use Rattle.definition.specs.Basics.{Bytes, ch}
 use Rattle.definition.specs.Text.{byte-is, run-end}
-use Rattle.definition.specs.Matchers.{match-newline, match-escape}
-use Rattle.definition.specs.Escapes.{unescape, is-surrogate}
-use Rattle.definition.specs.Strings.{string-stop, escape-turn, string-turn}
+use Rattle.definition.specs.Matchers.{only, match-newline, match-escape}
+use Rattle.definition.specs.Escapes.{unescape, is-surrogate, is-high-half}
+use Rattle.definition.specs.Strings.{string-stop, match-low-half, escape-turn, string-turn}
 use Rattle.definition.specs.declared.Pos.{Pos}
 use Rattle.definition.specs.declared.State.{State}
 use Rattle.lemmas.proofs.Cases.{by-found, by-outcome}
-use Rattle.read_string.specs.Moves.{escape-move, last-move, stop-move, broken-line, string-move}
+use Rattle.read_string.specs.Moves.{surrogate-move, escape-move, last-move, stop-move, broken-line, string-move}
 use Rattle.read_string.specs.Literal.{does}
 
 -- The turn, case by case.
 pub turn-does : (s f : Bytes) (sp : Pos) (st : State) (acc : Bytes) → string-turn s f sp (st, acc) ≡ does s sp st acc (string-move s f (st .offset))
-unfolding string-move stop-move escape-move last-move escape-turn
+unfolding string-move stop-move escape-move surrogate-move last-move escape-turn
 turn-does s f sp st acc =
     let i = st .offset in
     by-outcome (ltb i (run-end string-stop s i)) (λ t. rw (string-turn, string-move, t)) λ t.
@@ -23,7 +23,9 @@ turn-does s f sp st acc =
     by-found (match-newline s i) (λ nl n. rw (string-turn, string-move, stop-move, t, b, n)) λ n.
     by-found (match-escape s i)
     (λ e q. by-outcome (is-surrogate (unescape s i))
-    (λ u. rw (string-turn, string-move, stop-move, t, b, n, q, escape-turn, escape-move, u))
+    (λ u. by-found (only (is-high-half (unescape s i)) (match-low-half s e))
+    (λ _ p. rw (string-turn, string-move, stop-move, t, b, n, q, escape-turn, escape-move, u, surrogate-move, p))
+    (λ p. rw (string-turn, string-move, stop-move, t, b, n, q, escape-turn, escape-move, u, surrogate-move, p)))
     (λ u. rw (string-turn, string-move, stop-move, t, b, n, q, escape-turn, escape-move, u))) λ q.
     by-outcome (byte-is (ch "\"") s i) (λ c. rw (string-turn, string-move, stop-move, t, b, n, q, last-move, c)) λ c.
     by-outcome (leb (length s) i)

@@ -7,16 +7,21 @@ use Rattle.definition.specs.Basics.{Bytes, ch}
 use Rattle.definition.specs.Text.{byte-is, star, run-end}
 use Rattle.definition.specs.Chars.{is-anywhite}
 use Rattle.definition.specs.Matchers.{only, match-newline, match-escape}
-use Rattle.definition.specs.Escapes.{unescape, is-surrogate}
-use Rattle.definition.specs.Strings.{string-stop}
+use Rattle.definition.specs.Escapes.{unescape, is-surrogate, is-high-half, joined}
+use Rattle.definition.specs.Strings.{string-stop, match-low-half}
 use Rattle.definition.specs.declared.Match.{Match}
 use Rattle.definition.specs.declared.Match.the-variants.{To, Nothing}
 use Rattle.read_string.specs.declared.moves.Move.{Move}
 use Rattle.read_string.specs.declared.moves.Move.the-variants.{Copy, Skip, Line, Char, Surrogate, Close, Open}
 
+-- the surrogate c, whose escape ends at e: with a low half after it, a character
+unfoldable pub surrogate-move : Bytes → ℕ → ℕ → Move
+surrogate-move s c e =
+    elim (only (is-high-half c) (match-low-half s e)) [ To pair-end ↦ Char (joined c (unescape s e)) pair-end | Nothing ↦ Surrogate ]
+
 -- an escape that ends at e
 unfoldable pub escape-move : Bytes → ℕ → ℕ → Move
-escape-move s i e = elim (is-surrogate (unescape s i)) [ true ↦ Surrogate | false ↦ Char (unescape s i) e ]
+escape-move s i e = elim (is-surrogate (unescape s i)) [ true ↦ surrogate-move s (unescape s i) e | false ↦ Char (unescape s i) e ]
 
 -- the quote, the text's end, or a lone byte
 unfoldable pub last-move : Bytes → ℕ → Move

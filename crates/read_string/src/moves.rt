@@ -1,11 +1,14 @@
 // What stands at an offset of a string literal.
 //
 // Proved: what is found at an offset is what the specification says (specs/Moves.antt), whose cases are those of the
-// definition's `string-turn`; it ends after the offset and within the text, and an escape stands for fewer bytes than it
-// has. How many bytes a move adds to the literal, and where it ends, are what specs/Ends.antt says.
+// definition's `string-turn`; it ends after the offset and within the text, and an escape, or a pair of them, stands for
+// fewer bytes than it has. How many bytes a move adds to the literal, and where it ends, are what specs/Ends.antt says.
 // Assumed: nothing but what `string_move` requires: the class file is accepted.
 use definition::Match;
+use escapes::is_high_half;
+use escapes::is_low_half;
 use escapes::is_surrogate;
+use escapes::joined;
 use escapes::unescape;
 use match_lit::byte_is;
 use matchers::match_newline;
@@ -16,7 +19,7 @@ use star::stops::run_end;
 use utf8::encoding::encode_length;
 ghost use mathlib.Core.Path.{_≡_};
 ghost use Rattle.definition.specs.ClassFile.{class-check};
-ghost use Rattle.read_string.specs.Moves.{escape-move, last-move, stop-move, broken-line, string-move};
+ghost use Rattle.read_string.specs.Moves.{surrogate-move, escape-move, last-move, stop-move, broken-line, string-move};
 ghost use Rattle.read_string.specs.Ends.{added, ends-at};
 
 // What stands at an offset of a literal. A number at the end of a variant is the offset after it.
@@ -27,9 +30,9 @@ pub enum Move {
     Skip(usize),
     // A line's end, which stands for itself.
     Line(usize),
-    // An escape, with the code point that it stands for.
+    // An escape, or the escapes of a high and a low half, with the code point that they stand for.
     Char(u32, usize),
-    // An escape that stands for no character.
+    // The escape of a half by itself, which stands for no character.
     Surrogate,
     // The closing quote.
     Close(usize),
@@ -37,13 +40,30 @@ pub enum Move {
     Open,
 }
 
-// What the escape from i up to e stands for.
+// What the surrogate c, whose escape ends at e, stands for: with a low half after it, a character.
+fn surrogate_move(text: &[u8], c: u32, e: usize) -> Move
+    ensures { λ r. ⌜ r ≡ surrogate-move (now (text .entry)) c e ⌝ }
+{
+    if !is_high_half(c) {
+        return Move::Surrogate;
+    }
+    let Match::To(pair_end) = match_escape(text, e) else {
+        return Move::Surrogate;
+    };
+    let low = unescape(text, e);
+    if !is_low_half(low) {
+        return Move::Surrogate;
+    }
+    Move::Char(joined(c, low), pair_end)
+}
+
+// What the escape from i up to e stands for, with what follows it.
 fn escape_move(text: &[u8], i: usize, e: usize) -> Move
     ensures { λ r. ⌜ r ≡ escape-move (now (text .entry)) i e ⌝ }
 {
     let c = unescape(text, i);
     if is_surrogate(c) {
-        return Move::Surrogate;
+        return surrogate_move(text, c, e);
     }
     Move::Char(c, e)
 }
