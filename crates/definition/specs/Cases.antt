@@ -142,19 +142,21 @@ surrogate-cases =
     ∷ ("\"\\ud83d\\ude00\"", a-string 14 emoji ∷ eof 1 14 0 ∷ [])
     ∷ ("\"\\ud83D\\uDe00\"", a-string 14 emoji ∷ eof 1 14 0 ∷ [])
     ∷ ("\"a\\uD83D\\uDE00\\uD83D\\uDE00b\"", a-string 28 (97 ∷ (emoji ++ (emoji ++ (98 ∷ [])))) ∷ eof 1 28 0 ∷ [])
-    -- the least pair, the greatest, and the two between
+    -- the least pair, the greatest, and their halves the other way
     ∷ ("\"\\uD800\\uDC00\"", a-string 14 (0xF0 ∷ 0x90 ∷ 0x80 ∷ 0x80 ∷ []) ∷ eof 1 14 0 ∷ [])
     ∷ ("\"\\uDBFF\\uDFFF\"", a-string 14 (0xF4 ∷ 0x8F ∷ 0xBF ∷ 0xBF ∷ []) ∷ eof 1 14 0 ∷ [])
     ∷ ("\"\\uD800\\uDFFF\"", a-string 14 (0xF0 ∷ 0x90 ∷ 0x8F ∷ 0xBF ∷ []) ∷ eof 1 14 0 ∷ [])
     ∷ ("\"\\uDBFF\\uDC00\"", a-string 14 (0xF4 ∷ 0x8F ∷ 0xB0 ∷ 0x80 ∷ []) ∷ eof 1 14 0 ∷ [])
-    -- "Error 7 remains for an unpaired half, at its own backslash": a high half before another, a half too many, a low half by itself, and
-    -- the halves the wrong way round
+    -- "Error 7 remains for an unpaired half, at its own backslash": a high half before another, a half too many, a low half by itself, before
+    -- a high one, and before another
     ∷ ("\"\\uD83D\\uD83D\\uDE00\"", error-at 7 1 ∷ [])
     ∷ ("\"\\uD83D\\uDE00\\uDE00\"", error-at 7 13 ∷ [])
     ∷ ("\"\\uD83D\\uDE00\\uD83D\"", error-at 7 13 ∷ [])
     ∷ ("\"\\uDE00\"", error-at 7 1 ∷ [])
     ∷ ("\"\\uDE00\\uD83D\"", error-at 7 1 ∷ [])
-    -- no low half after the high one, by one to either side, or by its digits
+    ∷ ("\"\\uDC00\\uDC00\"", error-at 7 1 ∷ [])
+    ∷ ("\"\\uDFFF\\uDFFF\"", error-at 7 1 ∷ [])
+    -- no low half after the high one: by one to either side, by its digits, by its letter
     ∷ ("\"\\uD83D\\uDBFF\"", error-at 7 1 ∷ [])
     ∷ ("\"\\uD83D\\uE000\"", error-at 7 1 ∷ [])
     ∷ ("\"\\uD83D\\uDE0\"", error-at 7 1 ∷ [])

@@ -26,8 +26,8 @@ string-stop c = eqb c (ch "\\") || (eqb c (ch "\"") || is-newline-char c)
 unfoldable pub match-low-half : Bytes → ℕ → Match
 match-low-half s i = only (is-low-half (unescape s i)) (match-escape s i)
 
--- an escape that ends at e. "In a string, `\u` D800 to DBFF followed at once by `\u` DC00 to DFFF is one character." Any other surrogate
--- is error 7, "its position and both ends of its range at the backslash", which is "its own": there st stands
+-- an escape that ends at e. Document 02: "In a string, `\u` D800 to DBFF followed at once by `\u` DC00 to DFFF is one character". Any other
+-- surrogate is error 7, as document 01 has it, "its position and both ends of its range at the backslash", where st stands
 unfoldable pub escape-turn : Bytes → State → Bytes → ℕ → Turn (State × Bytes) Step
 escape-turn s st acc e =
     let c = unescape s (st .offset) in

@@ -1,5 +1,6 @@
--- What is known of surrogates: where the halves of a pair lie, and the number that they are joined to. Rests on the tests' own laws.
-use Prim.Native.Nat.{ℕ, _≤_, _<_}
+-- What is known of surrogates: where the halves of a pair lie, how large the number is that they are joined to, and how many bytes the
+-- number of one would have. Rests on the tests' own laws and on those of UTF-8.
+use Prim.Native.Nat.{ℕ, _≤_}
 use mathlib.Core.Path.{_≡_}
 use mathlib.Core.Bool.{true}
 use native.Mathlib.Omega.{arith}
@@ -35,11 +36,11 @@ module _ {h l : ℕ} (p : Halves h l) where
   unfolding is-low-half
   low-within = within 0xDC00 0xDFFF l (p .low)
 
-  -- both are a character
+  -- what they are joined to is at most the greatest character
   pub joined-small : joined h l ≤ 0x10FFFF
   joined-small = omega (arith, high-within .least, high-within .most, low-within .least, low-within .most)
 
--- a surrogate would have three bytes
+-- a surrogate would have three bytes or more
 pub surrogate-bytes : (c : ℕ) → is-surrogate c ≡ true → 3 ≤ length (encode c)
 unfolding is-surrogate
 surrogate-bytes c t =

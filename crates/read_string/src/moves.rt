@@ -40,7 +40,8 @@ pub enum Move {
     Open,
 }
 
-// What the surrogate c, whose escape ends at e, stands for: with a low half after it, a character.
+// What the surrogate c stands for, whose escape ends at e: a high half with a low one after it for a character, any other for
+// none.
 fn surrogate_move(text: &[u8], c: u32, e: usize) -> Move
     ensures { λ r. ⌜ r ≡ surrogate-move (now (text .entry)) c e ⌝ }
 {

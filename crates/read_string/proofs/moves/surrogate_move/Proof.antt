@@ -19,12 +19,18 @@ returns-3 : tie.Need-returns-3
 returns-3 c =
     let d = c .before .before in
     let k = d .before .before .before .before .before in
-    surrogate-not-low _ _ _ (sym (k .before .is-high-half .ensures) ∙ not-false _ (k .if1 .left)) (d .unescape .ensures) (sym (c .before .is-low-half .ensures) ∙ not-true _ (c .if2 .taken))
+    surrogate-not-low _ _ _
+    (sym (k .before .is-high-half .ensures) ∙ not-false _ (k .if1 .left))
+    (d .unescape .ensures)
+    (sym (c .before .is-low-half .ensures) ∙ not-true _ (c .if2 .taken))
 
 joined-requires : tie.Need-joined-requires
 joined-requires c κs =
     let k = c .before .before .before .before .before .before .before in
-    record { high = sym (k .before .is-high-half .ensures) ∙ not-false _ (k .if1 .left); low = sym (c .before .is-low-half .ensures) ∙ not-false _ (c .if2 .left) }
+    record {
+      high = sym (k .before .is-high-half .ensures) ∙ not-false _ (k .if1 .left);
+      low = sym (c .before .is-low-half .ensures) ∙ not-false _ (c .if2 .left);
+    }
 
 returns-4 : tie.Need-returns-4
 returns-4 c =
