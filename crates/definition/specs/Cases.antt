@@ -142,7 +142,7 @@ surrogate-cases =
     ∷ ("\"\\ud83d\\ude00\"", a-string 14 emoji ∷ eof 1 14 0 ∷ [])
     ∷ ("\"\\ud83D\\uDe00\"", a-string 14 emoji ∷ eof 1 14 0 ∷ [])
     ∷ ("\"a\\uD83D\\uDE00\\uD83D\\uDE00b\"", a-string 28 (97 ∷ (emoji ++ (emoji ++ (98 ∷ [])))) ∷ eof 1 28 0 ∷ [])
-    -- the least pair, the greatest, and their halves the other way
+    -- the least pair, the greatest, and the high half of each with the low half of the other
     ∷ ("\"\\uD800\\uDC00\"", a-string 14 (0xF0 ∷ 0x90 ∷ 0x80 ∷ 0x80 ∷ []) ∷ eof 1 14 0 ∷ [])
     ∷ ("\"\\uDBFF\\uDFFF\"", a-string 14 (0xF4 ∷ 0x8F ∷ 0xBF ∷ 0xBF ∷ []) ∷ eof 1 14 0 ∷ [])
     ∷ ("\"\\uD800\\uDFFF\"", a-string 14 (0xF0 ∷ 0x90 ∷ 0x8F ∷ 0xBF ∷ []) ∷ eof 1 14 0 ∷ [])

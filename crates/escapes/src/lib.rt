@@ -89,21 +89,21 @@ pub fn is_surrogate(c: u32) -> bool
     between(0xD800, 0xDFFF, c)
 }
 
-// The first of the two that are one character.
+// A surrogate that begins a pair.
 pub fn is_high_half(c: u32) -> bool
     ensures { λ r. ⌜ r ≡ is-high-half c ⌝ }
 {
     between(0xD800, 0xDBFF, c)
 }
 
-// The second of them.
+// A surrogate that ends one.
 pub fn is_low_half(c: u32) -> bool
     ensures { λ r. ⌜ r ≡ is-low-half c ⌝ }
 {
     between(0xDC00, 0xDFFF, c)
 }
 
-// The character that two halves are.
+// The character that a high and a low half are together.
 pub fn joined(high: u32, low: u32) -> u32
     requires { ⌜ Halves high low ⌝ }
     ensures { λ r. ⌜ r ≡ joined high low ⌝ }

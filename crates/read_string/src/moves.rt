@@ -40,8 +40,8 @@ pub enum Move {
     Open,
 }
 
-// What the surrogate c stands for, whose escape ends at e: a high half with a low one after it for a character, any other for
-// none.
+// What the surrogate c stands for, whose escape ends at e: a high half and a low one at once after it are a character, any
+// other surrogate is none.
 fn surrogate_move(text: &[u8], c: u32, e: usize) -> Move
     ensures { λ r. ⌜ r ≡ surrogate-move (now (text .entry)) c e ⌝ }
 {
