@@ -10,11 +10,18 @@ pub const UNDERSCORE: u32 = 95;
 
 pub const QUOTE: u32 = 39;
 
-// c is one of the characters from `first` to `last`.
+// c is one of the code points from `first` to `last`.
+pub fn between_codes(first: u32, last: u32, c: u32) -> bool
+    ensures { λ r. ⌜ r ≡ between-codes first last c ⌝ }
+{
+    first <= c && c <= last
+}
+
+// c is one of the characters from `first` to `last`, both of ASCII.
 pub fn between(first: u8, last: u8, c: u32) -> bool
     ensures { λ r. ⌜ r ≡ between-codes first last c ⌝ }
 {
-    first as u32 <= c && c <= last as u32
+    between_codes(first as u32, last as u32, c)
 }
 
 pub fn is_digit(c: u32) -> bool

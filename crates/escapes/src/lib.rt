@@ -2,13 +2,13 @@
 // Proved: each public function answers what the definition's function of its name says; `unescape` at any offset of any
 // bytes.
 // Assumed: nothing but what `joined` requires: its numbers are the halves of a pair.
+use chars::fixed::between_codes;
 use definition::Octet;
 use definition::Sequence;
 use number_value::digit_value;
 use utf8::characters::byte;
 use utf8::sequence_at;
 ghost use mathlib.Core.Path.{_≡_};
-ghost use Rattle.definition.specs.Basics.{between as between-codes};
 ghost use Rattle.definition.specs.Escapes.{code-at, hex-value, unescape, is-surrogate, is-high-half, is-low-half, joined};
 ghost use Rattle.escapes.specs.Contracts.{Digits, ByteFollows, escaped, Halves};
 
@@ -75,32 +75,25 @@ pub fn unescape(text: &[u8], i: usize) -> u32
     escaped(text, i, c)
 }
 
-// c is one of the numbers from `first` to `last`.
-fn between(first: u32, last: u32, c: u32) -> bool
-    ensures { λ r. ⌜ r ≡ between-codes first last c ⌝ }
-{
-    first <= c && c <= last
-}
-
 // A number that `\u` can give and that is no character.
 pub fn is_surrogate(c: u32) -> bool
     ensures { λ r. ⌜ r ≡ is-surrogate c ⌝ }
 {
-    between(0xD800, 0xDFFF, c)
+    between_codes(0xD800, 0xDFFF, c)
 }
 
 // A surrogate that begins a pair.
 pub fn is_high_half(c: u32) -> bool
     ensures { λ r. ⌜ r ≡ is-high-half c ⌝ }
 {
-    between(0xD800, 0xDBFF, c)
+    between_codes(0xD800, 0xDBFF, c)
 }
 
 // A surrogate that ends one.
 pub fn is_low_half(c: u32) -> bool
     ensures { λ r. ⌜ r ≡ is-low-half c ⌝ }
 {
-    between(0xDC00, 0xDFFF, c)
+    between_codes(0xDC00, 0xDFFF, c)
 }
 
 // The character that a high and a low half are together.

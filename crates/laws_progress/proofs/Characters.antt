@@ -3,14 +3,13 @@
 use Prim.Native.Nat.{ℕ, _+_, _≤_, _<_}
 use mathlib.Core.Path.{_≡_, _∙_, ap}
 use native.Mathlib.Omega.{arith}
-use lib.Dec.{leb}
 use lib.ListN.{length, getD}
-use borrow.Author.Tests.{lt-ltb, leb-true}
+use borrow.Author.Tests.{lt-ltb}
 use Rattle.definition.specs.Basics.{Bytes}
 use Rattle.definition.specs.Utf8.{sequence, sequence-at}
 use Rattle.definition.specs.Position.{is-continuation}
 use Rattle.definition.specs.declared.Sequence.the-variants.{Char}
-use Rattle.lemmas.proofs.Cases.{both}
+use Rattle.lemmas.proofs.Cases.{between-true}
 use Rattle.utf8.proofs.Character.{char-read, char-within}
 use Rattle.utf8.proofs.EncodingLaws.{encode-1}
 use Rattle.utf8.proofs.Boundaries.{char-continues}
@@ -24,8 +23,8 @@ pub record Tail (b : ℕ) : Type 0 where
 tail-of : (b : ℕ) → is-continuation b ≡ true → Tail b
 unfolding is-continuation
 tail-of b e =
-    let h = both (leb 0x80 b) (leb b 0xBF) e in
-    record { least = leb-true 0x80 b (h .0); most = omega (arith, leb-true b 0xBF (h .1)) }
+    let h = between-true 0x80 0xBF b e in
+    record { least = h .0; most = omega (arith, h .1) }
 
 -- the bytes of the character at i: there are some, they are the text's, those after the first only continue it, and ASCII is one
 pub record Spelled (s : Bytes) (i c w : ℕ) : Type 0 where

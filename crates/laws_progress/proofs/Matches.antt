@@ -6,8 +6,8 @@ use mathlib.Core.Path.{_≡_, refl, subst}
 use mathlib.Core.Bool.{Bool, true, false, not, _&&_, _||_, false≢true}
 use mathlib.Core.List.{List, [], _∷_}
 use native.Mathlib.Omega.{arith}
-use lib.Dec.{ltb, leb, eqb}
-use borrow.Author.Tests.{ltb-true, leb-true, eqb-true}
+use lib.Dec.{ltb, eqb}
+use borrow.Author.Tests.{ltb-true, eqb-true}
 use Rattle.definition.specs.Basics.{Bytes, Turn, fuel, ch, codes, mem-cp, between}
 use Rattle.definition.specs.Utf8.{sequence-at}
 use Rattle.definition.specs.Text.{with-char, char-has, byte-has, byte-is, star}
@@ -44,7 +44,7 @@ use Rattle.definition.specs.declared.Sequence.{Sequence}
 use Rattle.definition.specs.declared.Sequence.the-variants.{Char, Bad, End}
 use Rattle.definition.specs.declared.Match.{Match}
 use Rattle.definition.specs.declared.Match.the-variants.{To, Nothing}
-use Rattle.lemmas.proofs.Cases.{by-test, by-if, by-match, both, either}
+use Rattle.lemmas.proofs.Cases.{by-test, by-if, by-match, both, between-true, either}
 use Rattle.lemmas.proofs.Loops.{Leads, leads-map, loop-keeps}
 use Rattle.laws_progress.proofs.Walks.{
   Walk,
@@ -78,7 +78,7 @@ small-or {p} {q} f g b = either (p b) (q b) (f b) (g b)
 
 -- lying between two
 pub small-between : (x y : ℕ) → y < 0x80 → Small (between x y)
-small-between x y h b e = omega (arith, leb-true b y (both (leb x b) (leb b y) e .1))
+small-between x y h b e = omega (arith, between-true x y b e .1)
 
 -- being one of a list of ASCII
 abbrev all-small : List ℕ → Bool

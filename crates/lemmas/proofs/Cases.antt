@@ -5,7 +5,7 @@ use mathlib.Core.Path.{_≡_, refl, sym, ap, _∙_}
 use mathlib.Core.Bool.{Bool, true, false, not, _&&_, _||_, false≢true}
 use lib.Dec.{ltb, leb}
 use borrow.Author.Tests.{lt-ltb, le-ltb, le-leb, lt-leb, eq-eqb, ne-eqb, ltb-true, ltb-false, leb-true, leb-false}
-use Rattle.definition.specs.Basics.{if_then_else_}
+use Rattle.definition.specs.Basics.{between, if_then_else_}
 use Rattle.definition.specs.declared.Match.{Match}
 use Rattle.definition.specs.declared.Match.the-variants.{To, Nothing}
 
@@ -76,6 +76,12 @@ both false b e = absurd (false≢true e)
 pub both-true : (a b : Bool) → a ≡ true → b ≡ true → a && b ≡ true
 both-true true b p q = q
 both-true false b p q = absurd (false≢true p)
+
+-- a number that lies between two others
+pub between-true : (a b c : ℕ) → between a b c ≡ true → (a ≤ c) × (c ≤ b)
+between-true a b c e =
+    let h = both (leb a c) (leb c b) e in
+    (leb-true a c (h .0), leb-true c b (h .1))
 
 -- what holds where either test of a disjunction passes holds where the disjunction does
 pub either : {X : Type 0} (a b : Bool) → (a ≡ true → X) → (b ≡ true → X) → a || b ≡ true → X

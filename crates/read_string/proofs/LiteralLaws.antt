@@ -117,7 +117,7 @@ module _ (s f : Bytes) where
     pub literal-closed : (e : ℕ) → string-move s f i ≡ Close e → literal-from s f i acc ≡ acc
     literal-closed e q = by-move (Close e) q
 
-    -- as a surrogate does
+    -- as an unpaired surrogate does
     pub literal-surrogate : string-move s f i ≡ Surrogate → literal-from s f i acc ≡ []
     literal-surrogate q = by-move Surrogate q
 

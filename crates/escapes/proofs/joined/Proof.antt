@@ -9,9 +9,9 @@ pub joined-spec : {M : Type 1} → statement M
 joined-spec =
     tie.close
     (tie.spec
-    (λ c. omega (arith, high-within (c .pre) .least))
-    (λ c. omega (arith, high-within (c .pre) .most))
-    (λ c. omega (arith, high-within (c .pre) .most))
-    (λ c. omega (arith, low-within (c .pre) .least))
-    (λ c. omega (arith, high-within (c .pre) .most, low-within (c .pre) .most))
+    (λ c. omega (arith, high-within (c .pre) .0))
+    (λ c. omega (arith, high-within (c .pre) .1))
+    (λ c. omega (arith, high-within (c .pre) .1))
+    (λ c. omega (arith, low-within (c .pre) .0))
+    (λ c. omega (arith, high-within (c .pre) .1, low-within (c .pre) .1))
     (λ c. search needs))

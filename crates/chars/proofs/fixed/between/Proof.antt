@@ -1,13 +1,10 @@
--- `between` meets its contract: `&&` asks its second test only where the first holds.
-use borrow.Author.Tests.{le-leb, lt-leb}
+-- `between` meets its contract, which is that of `between_codes`.
+use borrow.Author.Needs.{needs}
 use Rattle.chars.proofs.fixed.between.Statement.{statement}
 use Rattle.chars.proofs.fixed.between.Tie as tie
 
 returns : tie.Need-returns
-returns c = rw (le-leb _ _ (c .if1 .taken))
-
-returns-2 : tie.Need-returns-2
-returns-2 c = rw (lt-leb _ _ (c .if1 .left))
+returns c = c .between-codes .ensures
 
 pub between-spec : {M : Type 1} → statement M
-between-spec = tie.close (tie.spec returns returns-2)
+between-spec = tie.close (tie.spec (λ c κs. search needs) returns)
