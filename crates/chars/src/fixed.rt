@@ -1,4 +1,4 @@
-// The tests on characters that compare them with given ones: no table and no class file is asked. Proved: each is the
+// The tests on code points that compare them with given ones: no table and no class file is asked. Proved: each is the
 // definition's test, or the part of one that specs/Parts.antt names.
 // Assumed: nothing.
 ghost use mathlib.Core.Path.{_≡_};
@@ -17,7 +17,7 @@ pub fn between_codes(first: u32, last: u32, c: u32) -> bool
     first <= c && c <= last
 }
 
-// c is one of the characters from `first` to `last`, both of ASCII.
+// The same where both ends fit a byte, as b'a' does.
 pub fn between(first: u8, last: u8, c: u32) -> bool
     ensures { λ r. ⌜ r ≡ between-codes first last c ⌝ }
 {

@@ -82,14 +82,14 @@ pub fn is_surrogate(c: u32) -> bool
     between_codes(0xD800, 0xDFFF, c)
 }
 
-// A surrogate that begins a pair.
+// A surrogate that can begin a pair.
 pub fn is_high_half(c: u32) -> bool
     ensures { λ r. ⌜ r ≡ is-high-half c ⌝ }
 {
     between_codes(0xD800, 0xDBFF, c)
 }
 
-// A surrogate that ends one.
+// A surrogate that can end one.
 pub fn is_low_half(c: u32) -> bool
     ensures { λ r. ⌜ r ≡ is-low-half c ⌝ }
 {

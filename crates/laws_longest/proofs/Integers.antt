@@ -9,7 +9,7 @@ use mathlib.Core.List.{List, [], _∷_, map}
 use mathlib.Core.Logic.{_⊎_, inl, inr}
 use native.Mathlib.Omega.{arith}
 use lib.Dec.{leb}
-use borrow.Author.Tests.{leb-true, le-leb, not-true}
+use borrow.Author.Tests.{le-leb, not-true}
 use Rattle.definition.specs.Basics.{Bytes, ch, codes, mem-cp, between}
 use Rattle.definition.specs.Text.{byte-has}
 use Rattle.definition.specs.Chars.{is-digit, is-hex}
@@ -19,7 +19,7 @@ use Rattle.definition.specs.Regex.{Re, chr, seq, alt, at-least-one, word}
 use Rattle.definition.specs.Patterns.{text, one-of, integer, xinteger, any-integer, suffixed, usuffixed}
 use Rattle.definition.specs.Samples.{nullable}
 use Rattle.definition.specs.declared.Match.{Match}
-use Rattle.lemmas.proofs.Cases.{both, both-true}
+use Rattle.lemmas.proofs.Cases.{both, both-true, between-true}
 use Rattle.laws_progress.proofs.Words.{all-plain}
 use Rattle.laws_longest.proofs.Language.{At}
 use Rattle.laws_longest.proofs.Ends.{Right, right-map, right-else}
@@ -51,9 +51,8 @@ digit-hex c t = rw t refl
 -- What lies between two characters lies between wider ones.
 pub between-wider : (a b n c : ℕ) → b ≤ n → between a b c ≡ true → between a n c ≡ true
 between-wider a b n c l t =
-    let h = both (leb a c) (leb c b) t in
-    let k : c ≤ n = omega (arith, leb-true c b (h .1)) in
-    both-true (leb a c) (leb c n) (h .0) (le-leb c n k)
+    let h = between-true a b c t in
+    both-true (leb a c) (leb c n) (le-leb a c (h .0)) (le-leb c n (omega (arith, h .1)))
 
 -- So an octal digit is one too.
 pub octal-hex : (c : ℕ) → between (ch "0") (ch "7") c ≡ true → is-hex c ≡ true

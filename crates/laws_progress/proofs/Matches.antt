@@ -1,6 +1,6 @@
 -- Each matcher's end is after its start, within the text, and on a character again. Rests on the laws of walks and on
 -- those of matchers put together.
-use Prim.Native.Nat.{ℕ, _+_, _-_, _<_}
+use Prim.Native.Nat.{ℕ, _+_, _<_}
 use Prim.Native.Char.{Char as Letter}
 use mathlib.Core.Path.{_≡_, refl, subst}
 use mathlib.Core.Bool.{Bool, true, false, not, _&&_, _||_, false≢true}

@@ -1,5 +1,5 @@
--- By cases on the test or on the match that a definition goes by, keeping what the case says, and tests decided by what is known of
--- their numbers. Rests on the tests' own laws, `borrow.Author.Tests`.
+-- By cases on the test or on the match that a definition goes by, keeping what the case says, tests decided by what is known of
+-- their numbers, and what a test that passes says of them. Rests on the tests' own laws, `borrow.Author.Tests`.
 use Prim.Native.Nat.{ℕ, _≤_, _<_}
 use mathlib.Core.Path.{_≡_, refl, sym, ap, _∙_}
 use mathlib.Core.Bool.{Bool, true, false, not, _&&_, _||_, false≢true}
@@ -77,7 +77,7 @@ pub both-true : (a b : Bool) → a ≡ true → b ≡ true → a && b ≡ true
 both-true true b p q = q
 both-true false b p q = absurd (false≢true p)
 
--- a number that lies between two others
+-- a number that passes the test lies between the two others, or is one of them
 pub between-true : (a b c : ℕ) → between a b c ≡ true → (a ≤ c) × (c ≤ b)
 between-true a b c e =
     let h = both (leb a c) (leb c b) e in

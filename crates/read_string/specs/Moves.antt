@@ -14,7 +14,7 @@ use Rattle.definition.specs.declared.Match.the-variants.{To, Nothing}
 use Rattle.read_string.specs.declared.moves.Move.{Move}
 use Rattle.read_string.specs.declared.moves.Move.the-variants.{Copy, Skip, Line, Char, Surrogate, Close, Open}
 
--- the surrogate c, whose escape ends at e: a high half with a low one after it is a character, any other none
+-- the surrogate c, whose escape ends at e: a high half and a low one at once after it are a character, any other surrogate is none
 unfoldable pub surrogate-move : Bytes → ℕ → ℕ → Move
 surrogate-move s c e =
     elim (only (is-high-half c) (match-low-half s e)) [ To pair-end ↦ Char (joined c (unescape s e)) pair-end | Nothing ↦ Surrogate ]

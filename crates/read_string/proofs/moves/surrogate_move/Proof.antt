@@ -1,4 +1,4 @@
--- A high half with a low one after it is a character, and any other surrogate is none.
+-- A high half and a low one at once after it are a character, and any other surrogate is none.
 use mathlib.Core.Path.{sym, _∙_}
 use borrow.Author.Needs.{needs}
 use borrow.Author.Tests.{not-true, not-false}
