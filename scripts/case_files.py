@@ -2,17 +2,18 @@
 
 document.cases is for people; its head says what its lines mean. short.jsonl and long.jsonl are test vectors of whole texts, a JSON
 object to a line: `text` in hexadecimal, `classes` (the class file classes-NAME.bin), `refusal` and `offset`, and `items`, each a pair of
-its sixteen numbers (word 6 being 0) and its payload in hexadecimal. runs.jsonl has runs from arbitrary states with arbitrary buffers:
+its eighteen numbers (word 6 being 0) and its payload in hexadecimal. runs.jsonl has runs from arbitrary states with arbitrary buffers:
 `text`, `name` and `classes` in hexadecimal, `state`, `records` and `payload` (how much is lent), `refusal`, `offset`, `stop`, `count`,
 `after` (the state handed back), `items` with word 6.
 
-Nothing here comes from a run of the lexer: the state after an item is reckoned from the position where the item ends."""
+Nothing here comes from a run of the lexer: the state after an item is reckoned from the position where the item ends, and so are the
+bytes that it is read from, which a case says besides."""
 import json
 import pathlib
 import re
 
 DATA = pathlib.Path(__file__).resolve().parent.parent / "crates" / "cases" / "data"
-RECORD = 16
+RECORD = 18
 STATE = 9
 EOF, ERROR, STRING, BLOB, USE_LANG_BLOB = 165, 173, 148, 149, 150
 LAST_KIND = 173
@@ -38,6 +39,13 @@ class Item:
 
     def is_error(self, *numbers):
         return self.words[0] == 1 and self.words[1] == ERROR and (not numbers or self.words[10] in numbers)
+
+    def is_last(self):
+        return self.words[0] == 1 and self.words[1] in (EOF, ERROR)
+
+    def span(self):
+        """Where the bytes begin and end that it is read from: EOF and ERROR are empty where they stand."""
+        return self.words[16:18]
 
 
 class Case:
@@ -116,10 +124,17 @@ def take_numbers(case, word, numbers):
         case.stop, = numbers
     elif word == "state":
         case.after = numbers
-    elif word == "item" and 6 <= len(numbers) <= RECORD:
-        case.items.append(Item(numbers + [0] * (RECORD - len(numbers)), b""))
     else:
         return False
+    return True
+
+
+def take_item(case, span, numbers):
+    """A line of an item: where its bytes begin and end, and some of its other numbers; False where there are more or fewer."""
+    ends, others = span.split("-"), RECORD - 2
+    if len(ends) != 2 or not 6 <= len(numbers) <= others:
+        return False
+    case.items.append(Item(numbers + [0] * (others - len(numbers)) + [int(end) for end in ends], b""))
     return True
 
 
@@ -163,10 +178,16 @@ class Reader:
                 self.case.classes = (self.path.parent / rest).read_bytes()
             elif word in BYTES or word == "payload" or word == "+":
                 self.take_bytes(word, bytes_of(rest))
-            elif not take_numbers(self.case, word, numbers_of(rest)):
+            elif not self.take_line(word, rest):
                 self.fail("the line can't be read")
         except (ValueError, OSError) as why:
             self.fail("the line can't be read: %s" % why)
+
+    def take_line(self, word, rest):
+        if word == "item":
+            span, _, rest = rest.partition(" ")
+            return take_item(self.case, span, numbers_of(rest))
+        return take_numbers(self.case, word, numbers_of(rest))
 
     def take_bytes(self, word, said):
         goes_on = word == "+"
@@ -310,7 +331,7 @@ def state_after(case, item, walk, before):
         depth = depth_after(case.text, item, before[6])
         if depth:
             mode, start = 1, words[2:4]
-    elif words[0] == 1 and words[1] in (EOF, ERROR):
+    elif item.is_last():
         mode = 2
     return [walk.at, walk.line, walk.bol, walk.column, words[8], mode, depth] + start
 
@@ -331,6 +352,8 @@ def reckon(case):
                 raise case.wrong("item %d ends at %d:%d, which the text doesn't come to" % (number, words[4], words[5]))
             walk.step(has_lines, is_string)
         item.end = walk.at
+        if item.span() != [item.end if item.is_last() else item.begin, item.end]:
+            raise case.wrong("item %d is not read from byte %d up to byte %d" % (number, *item.span()))
         state = item.after = state_after(case, item, walk, state)
     if case.after not in (None, state):
         raise case.wrong("the state after its last item is %s" % state)

@@ -1,7 +1,7 @@
 """What scripts/items and scripts/lint share: the runs over a text, one after another, and their items as objects.
 
-The program `cases` makes the runs; the head of its main.rt says what it reads and prints. Document 01 says what the numbers of an
-answer and of a record mean, and docs/DECISIONS.md what document 01 leaves open."""
+The program `cases` makes the runs; the head of its main.rt says what it reads and prints. Documents 01 and 02 say what the numbers
+of an answer and of a record mean, and docs/DECISIONS.md what they leave open."""
 import collections
 import functools
 import os
@@ -20,7 +20,7 @@ CLASS_BYTES = 65537
 NAME_BYTES = 4097
 
 # What each run is lent: room for 65,536 items, and for any one payload.
-RECORD = 16
+RECORD = 18
 LENT_NUMBERS = 65536 * RECORD
 LENT_BYTES = 1052672
 
@@ -126,6 +126,11 @@ def position(words, at):
     return {"line": words[at], "column": words[at + 1]}
 
 
+def place_of(words):
+    """Where an item stands, by its positions and by the bytes that it was read from."""
+    return {"start": position(words, 2), "end": position(words, 4), "from": words[16], "to": words[17]}
+
+
 def put_text(item, name, payload, at, size):
     """Puts a part of the payload bytes into an object: as text, or, if it is no UTF-8, in hexadecimal and under another name."""
     if len(payload) < at + size:
@@ -154,7 +159,7 @@ def error_of(words):
 
 
 def token_of(words, payload, kinds):
-    item = {"item": "token", "kind": kinds[words[1]], "start": position(words, 2), "end": position(words, 4), "comments": words[8]}
+    item = {"item": "token", "kind": kinds[words[1]], **place_of(words), "comments": words[8]}
     mark = words[9]
     if mark == BLOB:
         item["blob"] = blob_of(words, payload)
@@ -168,8 +173,7 @@ def token_of(words, payload, kinds):
 
 
 def comment_of(words, payload):
-    closed = words[9] == CLOSED
-    item = {"item": "comment", "start": position(words, 2), "end": position(words, 4), "number": words[8], "closed": closed}
+    item = {"item": "comment", **place_of(words), "number": words[8], "closed": words[9] == CLOSED}
     put_text(item, "payload", payload, words[6], words[7])
     return item
 

@@ -16,7 +16,7 @@
 //   start CASE REFUSAL STATE
 //   classes CASE ANSWER
 //   run CASE REFUSAL OFFSET STOP COUNT STATE
-//   record NUMBERS        each sixteen of the record numbers lent, up to the last that isn't 4294967295
+//   record NUMBERS        each eighteen of the record numbers lent, up to the last that isn't 4294967295
 //   payload BYTES         the payload bytes lent, in hexadecimal, up to the last that isn't 255
 //
 // Before a run all that it is lent holds 4294967295 and 255, so these lines say what every number and byte holds after it. A frame

@@ -3,6 +3,7 @@
 use definition::RECORD;
 ghost use Prim.Native.Nat.{_*_, _≤_};
 ghost use lib.ListN.{length};
+ghost use Rattle.definition.specs.Item.{record-size};
 ghost use Rattle.io.specs.Counts.{Counts};
 
 pub const FILL_NUMBER: u32 = 4294967295;
@@ -25,11 +26,11 @@ fn numbers_into(numbers: &[u32], out: &mut [u8]) -> usize
     end
 }
 
-// Prints a blank and a number for each of at most sixteen.
+// Prints a blank and a number for each, as many at most as a record has.
 pub fn print_numbers(numbers: &[u32])
-    requires { ⌜ length (now numbers) ≤ 16 ⌝ }
+    requires { ⌜ length (now numbers) ≤ record-size ⌝ }
 {
-    let mut row = [0u8; 176];
+    let mut row = [0u8; 11 * RECORD];
     let end = numbers_into(numbers, &mut row);
     say(&row[..end]);
 }

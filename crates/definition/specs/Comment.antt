@@ -23,10 +23,11 @@ unfoldable pub comment-stop : ℕ → Bool
 comment-stop c = eqb c (ch "(") || (eqb c (ch "*") || is-newline-char c)
 
 -- `terminate`: the piece that began at byte `from` and whose text ends at i. `buf` holds the chunks read since, which are
--- the text's own bytes; the reading stands after the piece
+-- the text's own bytes; the reading stands after the piece. Document 02: "A comment's later piece starts where the last ended", and "of a
+-- comment's unclosed pieces the first ends at the text's end and the others are empty there"
 abbrev pub terminate : Bytes → ℕ → ℕ → Bool → State → Step
 terminate s from i closed st =
-    add-comment (maybe-trim-lines (st .comment .col) (lexeme s from i ++ cps "*)")) (st .comment) (cur-pos s st) closed (close-comment st)
+    add-comment (maybe-trim-lines (st .comment .col) (lexeme s from i ++ cps "*)")) from (st .comment) (cur-pos s st) closed (close-comment st)
 
 -- one call of `comment`
 abbrev pub comment-turn : Bytes → ℕ → State → Turn State Step
@@ -54,8 +55,9 @@ comment-turn s from st =
 unfoldable pub comment : Bytes → ℕ → State → Step
 comment s from st = loop (comment-turn s from) (λ a. terminate s from (a .offset) false a) (fuel s) st
 
-unfoldable pub line-comment : Bytes → Bytes → State → Step
-line-comment s pre st =
+-- the rest of a line; `pre` is what of the comment stands before it, from byte `from` on. Document 02: "a line comment at its first slash"
+unfoldable pub line-comment : Bytes → ℕ → Bytes → State → Step
+line-comment s from pre st =
     let i = st .offset in
     let j = run-end is-newline-char s i in
-    add-comment (pre ++ lexeme s i j) (pos-of s st i) (pos-of s st j) true (one-more-comment (advance st j))
+    add-comment (pre ++ lexeme s i j) from (pos-of s st i) (pos-of s st j) true (one-more-comment (advance st j))

@@ -1,4 +1,4 @@
--- Items: what one step gives, and the sixteen numbers that a record holds.
+-- Items: what one step gives, and the eighteen numbers that a record holds.
 use Prim.Native.Nat.{ℕ}
 use mathlib.Core.Bool.{Bool, true, false}
 use mathlib.Core.List.{List, [], _∷_, _++_}
@@ -21,17 +21,27 @@ pub record Step : Type 0 where
 
 -- ---- tokens, errors and comments
 
--- `tok`
-abbrev pub tok : ℕ → Bytes → Pos → Pos → Extra → State → Step
-tok k text sp ep extra next = record {
-  item = record { kind = k; sp = sp; ep = ep; length = length text; comments = next .comments; extra = extra };
+-- `tok`. Document 02: "16 and 17 are the start and end offset of the bytes the item was read from": it is read from byte `from` up to where
+-- the state after it stands
+abbrev pub tok : ℕ → Bytes → ℕ → Pos → Pos → Extra → State → Step
+tok k text from sp ep extra next = record {
+  item = record {
+    kind = k;
+    sp = sp;
+    ep = ep;
+    length = length text;
+    comments = next .comments;
+    extra = extra;
+    from = from;
+    to = next .offset;
+  };
   payload = text;
   next = next;
 }
 
 -- a token with a blob: the payload is its name and then its contents
-abbrev pub blob-tok : ℕ → Bytes → Bytes → Pos → Pos → Pos → Pos → State → Step
-blob-tok k name contents sp ep pos snap next = record {
+abbrev pub blob-tok : ℕ → Bytes → Bytes → ℕ → Pos → Pos → Pos → Pos → State → Step
+blob-tok k name contents from sp ep pos snap next = record {
   item = record {
     kind = k;
     sp = sp;
@@ -39,27 +49,31 @@ blob-tok k name contents sp ep pos snap next = record {
     length = length name;
     comments = next .comments;
     extra = Blob (length contents) pos snap;
+    from = from;
+    to = next .offset;
   };
   payload = name ++ contents;
   next = next;
 }
 
--- `lex_error` and the ERROR token of `lex_all`: "ERROR sits where reading stopped"; st is the state there
+-- `lex_error` and the ERROR token of `lex_all`: "ERROR sits where reading stopped"; st is the state there. Document 02: "EOF and ERROR are
+-- empty at their position"
 abbrev pub lex-error : Bytes → State → ℕ → Bytes → Pos → Pos → Step
-lex-error s st number text from to = tok (kind "ERROR") text (cur-pos s st) (cur-pos s st) (LexError number from to) (ended st)
+lex-error s st number text from to =
+    tok (kind "ERROR") text (st .offset) (cur-pos s st) (cur-pos s st) (LexError number from to) (ended st)
 
 -- an error without a text, whose range is where reading stopped
 abbrev pub error-here : Bytes → State → ℕ → Step
 error-here s st number = lex-error s st number [] (cur-pos s st) (cur-pos s st)
 
 -- `add_comment`: next is the state after the comment, which counts it already; closed says whether its end stood in the text
-abbrev pub add-comment : Bytes → Pos → Pos → Bool → State → Step
-add-comment text sp ep closed next = tok 0 text sp ep (Comment closed) next
+abbrev pub add-comment : Bytes → ℕ → Pos → Pos → Bool → State → Step
+add-comment text from sp ep closed next = tok 0 text from sp ep (Comment closed) next
 
--- ---- the sixteen numbers
+-- ---- the eighteen numbers
 
 abbrev pub record-size : ℕ
-record-size = 16
+record-size = 18
 
 -- word 0: 1 for a token, 2 for a comment
 abbrev pub sort-of : Extra → ℕ
@@ -94,4 +108,4 @@ words t used =
     ∷ used
     ∷ t .length
     ∷ t .comments
-    ∷ extra-words (t .extra)
+    ∷ (extra-words (t .extra) ++ (t .from ∷ t .to ∷ []))

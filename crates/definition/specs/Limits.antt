@@ -264,13 +264,13 @@ abbrev pub ab : Bytes
 ab = cps "a b"
 
 abbrev pub first-ident : List ℕ
-first-ident = 1 ∷ 65 ∷ 1 ∷ 0 ∷ 1 ∷ 1 ∷ 0 ∷ 1 ∷ 0 ∷ 0 ∷ 0 ∷ 0 ∷ 0 ∷ 0 ∷ 0 ∷ 0 ∷ []
+first-ident = 1 ∷ 65 ∷ 1 ∷ 0 ∷ 1 ∷ 1 ∷ 0 ∷ 1 ∷ 0 ∷ 0 ∷ 0 ∷ 0 ∷ 0 ∷ 0 ∷ 0 ∷ 0 ∷ 0 ∷ 1 ∷ []
 
 abbrev pub second-ident : List ℕ
-second-ident = 1 ∷ 65 ∷ 1 ∷ 2 ∷ 1 ∷ 3 ∷ 1 ∷ 1 ∷ 0 ∷ 0 ∷ 0 ∷ 0 ∷ 0 ∷ 0 ∷ 0 ∷ 0 ∷ []
+second-ident = 1 ∷ 65 ∷ 1 ∷ 2 ∷ 1 ∷ 3 ∷ 1 ∷ 1 ∷ 0 ∷ 0 ∷ 0 ∷ 0 ∷ 0 ∷ 0 ∷ 0 ∷ 0 ∷ 2 ∷ 3 ∷ []
 
 abbrev pub the-end : List ℕ
-the-end = 1 ∷ 165 ∷ 1 ∷ 3 ∷ 1 ∷ 3 ∷ 2 ∷ 0 ∷ 0 ∷ 0 ∷ 0 ∷ 0 ∷ 0 ∷ 0 ∷ 0 ∷ 0 ∷ []
+the-end = 1 ∷ 165 ∷ 1 ∷ 3 ∷ 1 ∷ 3 ∷ 2 ∷ 0 ∷ 0 ∷ 0 ∷ 0 ∷ 0 ∷ 0 ∷ 0 ∷ 0 ∷ 0 ∷ 3 ∷ 3 ∷ []
 
 abbrev pub at-line-1 : ℕ → ℕ → List ℕ
 at-line-1 offset mode = offset ∷ 1 ∷ 0 ∷ 0 ∷ 0 ∷ mode ∷ 0 ∷ 0 ∷ 0 ∷ []
@@ -281,32 +281,34 @@ a-blob-text = cps "```f\nx```"
 
 unfoldable pub stop-rows : List Row
 stop-rows = (
-  "the end in the last 16 numbers is stop 0",
-  all-of (run-on ab (started 1 0) 48 2),
+  "the end in the last 18 numbers is stop 0",
+  all-of (run-on ab (started 1 0) 54 2),
   0 ∷ 0 ∷ 0 ∷ 3 ∷ (at-line-1 3 2 ++ (first-ident ++ (second-ident ++ (the-end ++ cps "ab")))),
 )
     ∷ (
-      "15 numbers left are stop 1, and keep what they held",
-      all-of (run-on ab (started 1 0) 47 3),
-      0 ∷ 0 ∷ 1 ∷ 2 ∷ (at-line-1 3 0 ++ (first-ident ++ (second-ident ++ (replicate 15 7 ++ (cps "ab" ++ (7 ∷ [])))))),
+      "17 numbers left are stop 1, and keep what they held",
+      all-of (run-on ab (started 1 0) 53 3),
+      0 ∷ 0 ∷ 1 ∷ 2 ∷ (at-line-1 3 0 ++ (first-ident ++ (second-ident ++ (replicate 17 7 ++ (cps "ab" ++ (7 ∷ [])))))),
     )
+    ∷ ("17 numbers lent take no item", all-of (run-on ab (started 1 0) 17 1), 0 ∷ 0 ∷ 1 ∷ 0 ∷ (at-line-1 0 0 ++ replicate 18 7))
+    ∷ ("18 numbers lent take one", all-of (run-on ab (started 1 0) 18 1), 0 ∷ 0 ∷ 1 ∷ 1 ∷ (at-line-1 1 0 ++ (first-ident ++ cps "a")))
     ∷ (
       "a payload too long is stop 2",
-      all-of (run-on ab (started 1 0) 48 1),
-      0 ∷ 0 ∷ 2 ∷ 1 ∷ (at-line-1 1 0 ++ (first-ident ++ (replicate 32 7 ++ cps "a"))),
+      all-of (run-on ab (started 1 0) 54 1),
+      0 ∷ 0 ∷ 2 ∷ 1 ∷ (at-line-1 1 0 ++ (first-ident ++ (replicate 36 7 ++ cps "a"))),
     )
-    ∷ ("a blob's name and contents are one payload", answer (run-on a-blob-text (started 1 0) 32 2), 0 ∷ 0 ∷ 2 ∷ 0 ∷ at-line-1 0 0)
-    ∷ ("with room for both it is written", answer (run-on a-blob-text (started 1 0) 32 3), 0 ∷ 0 ∷ 0 ∷ 2 ∷ 9 ∷ 2 ∷ 5 ∷ 0 ∷ 0 ∷ 2 ∷ 0 ∷ 0 ∷ 0 ∷ [])
-    ∷ ("1 goes before 2", all-of (run-on ab (started 1 0) 31 1), 0 ∷ 0 ∷ 1 ∷ 1 ∷ (at-line-1 1 0 ++ (first-ident ++ (replicate 15 7 ++ cps "a"))))
+    ∷ ("a blob's name and contents are one payload", answer (run-on a-blob-text (started 1 0) 36 2), 0 ∷ 0 ∷ 2 ∷ 0 ∷ at-line-1 0 0)
+    ∷ ("with room for both it is written", answer (run-on a-blob-text (started 1 0) 36 3), 0 ∷ 0 ∷ 0 ∷ 2 ∷ 9 ∷ 2 ∷ 5 ∷ 0 ∷ 0 ∷ 2 ∷ 0 ∷ 0 ∷ 0 ∷ [])
+    ∷ ("1 goes before 2", all-of (run-on ab (started 1 0) 35 1), 0 ∷ 0 ∷ 1 ∷ 1 ∷ (at-line-1 1 0 ++ (first-ident ++ (replicate 17 7 ++ cps "a"))))
     ∷ ("no room at all: the state given", answer (run-on ab (started 1 0) 0 0), 0 ∷ 0 ∷ 1 ∷ 0 ∷ at-line-1 0 0)
-    ∷ ("white before an unwritten item is not in the state", answer (run-on (cps ";     a") (started 1 0) 16 9), 0 ∷ 0 ∷ 1 ∷ 1 ∷ at-line-1 1 0)
-    ∷ ("at the text's end in mode 0 the end is still to be written", answer (run-on [] (started 1 0) 15 0), 0 ∷ 0 ∷ 1 ∷ 0 ∷ at-line-1 0 0)
+    ∷ ("white before an unwritten item is not in the state", answer (run-on (cps ";     a") (started 1 0) 18 9), 0 ∷ 0 ∷ 1 ∷ 1 ∷ at-line-1 1 0)
+    ∷ ("at the text's end in mode 0 the end is still to be written", answer (run-on [] (started 1 0) 17 0), 0 ∷ 0 ∷ 1 ∷ 0 ∷ at-line-1 0 0)
     ∷ (
       "error 7 ends at its own backslash, and nothing of its string is written",
-      all-of (run-on (cps "\"a\\uD83D\\uDE00\\uDE00\"") (started 1 0) 16 5),
+      all-of (run-on (cps "\"a\\uD83D\\uDE00\\uDE00\"") (started 1 0) 18 5),
       0 ∷ 0 ∷ 0 ∷ 1 ∷ (at-line-1 14 2 ++ (error-at 7 14 ++ replicate 5 7)),
     )
-    ∷ ("mode 2 gives no items, with room", answer (run-on ab (in-mode 2 0 0) 48 9), 0 ∷ 0 ∷ 0 ∷ 0 ∷ 3 ∷ 1 ∷ 0 ∷ 0 ∷ 0 ∷ 2 ∷ 0 ∷ 0 ∷ 0 ∷ [])
+    ∷ ("mode 2 gives no items, with room", answer (run-on ab (in-mode 2 0 0) 54 9), 0 ∷ 0 ∷ 0 ∷ 0 ∷ 3 ∷ 1 ∷ 0 ∷ 0 ∷ 0 ∷ 2 ∷ 0 ∷ 0 ∷ 0 ∷ [])
     ∷ ("mode 2 gives no items, without room", answer (run-on ab (in-mode 2 0 0) 0 0), 0 ∷ 0 ∷ 0 ∷ 0 ∷ 3 ∷ 1 ∷ 0 ∷ 0 ∷ 0 ∷ 2 ∷ 0 ∷ 0 ∷ 0 ∷ [])
     ∷ []
 
@@ -328,16 +330,16 @@ after-first = record {
 
 unfoldable pub carried-rows : List Row
 carried-rows =
-    ("after a piece the comment is open", answer (run-on nested (started 1 0) 16 99), 0 ∷ 0 ∷ 1 ∷ 1 ∷ state-words after-first)
+    ("after a piece the comment is open", answer (run-on nested (started 1 0) 18 99), 0 ∷ 0 ∷ 1 ∷ 1 ∷ state-words after-first)
     ∷ (
       "mode 1 goes on after it",
       flattened (said (run-on nested after-first 99 99)),
-      flattened (a-comment 1 0 1 17 2 true " c *)" ∷ eof 1 17 2 ∷ []),
+      flattened (a-comment 1 0 1 17 2 true 12 17 " c *)" ∷ eof 1 17 2 17 ∷ []),
     )
     ∷ (
       "at the text's end each level gives a piece",
       flattened (said (run-on (cps "abc") (in-comment 3 1 2 1 0) 99 99)),
-      flattened (a-comment 1 0 1 3 1 false "*)" ∷ a-comment 1 0 1 3 2 false "*)" ∷ eof 1 3 2 ∷ []),
+      flattened (a-comment 1 0 1 3 1 false 3 3 "*)" ∷ a-comment 1 0 1 3 2 false 3 3 "*)" ∷ eof 1 3 2 3 ∷ []),
     )
     ∷ []
 

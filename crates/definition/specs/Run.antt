@@ -47,7 +47,7 @@ written a t = record {
   used = a .used + length (t .payload);
 }
 
--- the end is stop 0, "fewer than 16 record numbers left" stop 1, "a payload longer than the bytes left" stop 2; "1 goes before 2"
+-- the end is stop 0, by document 02 "fewer than 18 numbers left" stop 1, "a payload longer than the bytes left" stop 2; "1 goes before 2"
 unfoldable pub run-turn : Bytes → Bytes → Bytes → Writing → Turn Writing Outcome
 run-turn s name f a =
     elim (eqb (a .state .mode) 2) [

@@ -39,9 +39,9 @@ escape-turn s st acc e =
       | false ↦ again (advance st e, acc ++ string-of-cp c)
     ]
 
--- one call of `string_lit`: acc is the literal read so far, sp where it began
-abbrev pub string-turn : Bytes → Bytes → Pos → State × Bytes → Turn (State × Bytes) Step
-string-turn s f sp (st, acc) =
+-- one call of `string_lit`: acc is the literal read so far; it began at byte `from`, whose position is sp
+abbrev pub string-turn : Bytes → Bytes → ℕ → Pos → State × Bytes → Turn (State × Bytes) Step
+string-turn s f from sp (st, acc) =
     let i = st .offset in
     let j = run-end string-stop s i in
     elim (ltb i j) [
@@ -53,7 +53,7 @@ string-turn s f sp (st, acc) =
           | Nothing ↦ elim (match-escape s i) [
             | To esc ↦ escape-turn s st acc esc
             | Nothing ↦ elim (byte-is (ch "\"") s i) [
-              | true ↦ done (let st = advance st (i + 1) in tok (kind "STRING") acc sp (cur-pos s st) NoExtra st)
+              | true ↦ done (let st = advance st (i + 1) in tok (kind "STRING") acc from sp (cur-pos s st) NoExtra st)
               | false ↦ elim (leb (length s) i) [
                 | true ↦ done (error-here s st 1)
                 -- "`\` before a character that makes no escape stays in the string"
@@ -65,5 +65,5 @@ string-turn s f sp (st, acc) =
       ]
     ]
 
-unfoldable pub string-lit : Bytes → Bytes → State → Pos → Step
-string-lit s f st sp = loop (string-turn s f sp) (λ a. error-here s (a .0) 1) (fuel s) (st, [])
+unfoldable pub string-lit : Bytes → Bytes → State → ℕ → Pos → Step
+string-lit s f st from sp = loop (string-turn s f from sp) (λ a. error-here s (a .0) 1) (fuel s) (st, [])

@@ -79,7 +79,7 @@ starts-with id prefix = same (take (length prefix) id) prefix
 
 -- `finish`
 abbrev pub finish : Bytes → State → ℕ → ℕ → Bytes → Token-turn
-finish s st e k text = let next = advance st e in done (tok k text (cur-pos s st) (cur-pos s next) NoExtra next)
+finish s st e k text = let next = advance st e in done (tok k text (st .offset) (cur-pos s st) (cur-pos s next) NoExtra next)
 
 -- a token of a kind and a text that a table has
 abbrev pub finish-entry : Bytes → State → ℕ → Entry → Token-turn
@@ -93,13 +93,13 @@ finish-word s st e table k =
 
 -- the header of a blob whose name begins after n bytes
 abbrev pub blob-header : Bytes → State → ℕ → ℕ → Header
-blob-header s st e n = record { name = lexeme s (st .offset + n) e; pos = pos-of s st e; snap = cur-pos s st }
+blob-header s st e n = record { name = lexeme s (st .offset + n) e; pos = pos-of s st e; snap = cur-pos s st; from = st .offset }
 
 -- `RCharLit`, `RCharLitB`
 abbrev pub char-lit : Bytes → State → ℕ → Token-turn
 char-lit s st e =
     let next = advance st e in
-    done (tok (kind "CHAR") [] (cur-pos s st) (cur-pos s next) (CharLit (unescape s (st .offset + 1))) next)
+    done (tok (kind "CHAR") [] (st .offset) (cur-pos s st) (cur-pos s next) (CharLit (unescape s (st .offset + 1))) next)
 
 -- `RKwOp`
 abbrev pub kw-op : Bytes → State → ℕ → KwOp → Token-turn
@@ -107,7 +107,7 @@ kw-op s st e x =
     let i = st .offset in
     let next = advance st (no-comment s i e) in
     let rest = lexeme s (i + length (cps (x .word))) (next .offset) in
-    done (tok (elim rest [ [] ↦ kind (x .kind) | b ∷ l ↦ kind (x .op-kind) ]) rest (cur-pos s st) (cur-pos s next) NoExtra next)
+    done (tok (elim rest [ [] ↦ kind (x .kind) | b ∷ l ↦ kind (x .op-kind) ]) rest i (cur-pos s st) (cur-pos s next) NoExtra next)
 
 -- `RIdent`
 abbrev pub ident : Bytes → State → ℕ → Token-turn
@@ -138,12 +138,14 @@ bad-number s st e = done (lex-error s st 5 (lexeme s (st .offset) e) (cur-pos s 
 abbrev pub comment-start : Bytes → State → ℕ → Token-turn
 comment-start s st e = done (comment s (st .offset) (open-comment (advance st e) (cur-pos s st)))
 
--- `RGt`: "sedlex restarts the match after the '>', so the token starts there"
+-- `RGt`: "sedlex restarts the match after the '>', so the token starts there", and its position is one later. Document 02: "A `>` token
+-- starts at its `>`"
 abbrev pub gt : Bytes → State → ℕ → Token-turn
 gt s st e =
-    let j = st .offset + 1 in
+    let i = st .offset in
+    let j = i + 1 in
     let next = advance st (no-comment s j e) in
-    done (tok (kind "OPINFIX0c") (ch ">" ∷ lexeme s j (next .offset)) (pos-of s st j) (cur-pos s next) NoExtra next)
+    done (tok (kind "OPINFIX0c") (ch ">" ∷ lexeme s j (next .offset)) i (pos-of s st j) (cur-pos s next) NoExtra next)
 
 -- `ROp`; cut to nothing it is "a line comment"
 abbrev pub op : Bytes → State → ℕ → String → Token-turn
@@ -151,7 +153,7 @@ op s st e k =
     let i = st .offset in
     let e′ = no-comment s i e in
     elim (eqb e′ i) [
-      | true ↦ done (line-comment s [] st)
+      | true ↦ done (line-comment s i [] st)
       | false ↦ finish s st e′ (kind k) (lexeme s i e′)
     ]
 
@@ -183,8 +185,8 @@ by-rule s name f st e RReal = finish s st e (kind "REAL") (lexeme s (st .offset)
 by-rule s name f st e RBadNumber = bad-number s st e
 by-rule s name f st e RCommentStart = comment-start s st e
 by-rule s name f st e RInFStar = again (advance st e)
-by-rule s name f st e RLineComment = done (line-comment s (lexeme s (st .offset) e) (advance st e))
-by-rule s name f st e RString = done (string-lit s f (advance st e) (cur-pos s st))
+by-rule s name f st e RLineComment = done (line-comment s (st .offset) (lexeme s (st .offset) e) (advance st e))
+by-rule s name f st e RString = done (string-lit s f (advance st e) (st .offset) (cur-pos s st))
 by-rule s name f st e RBacktickIdent = finish s st e (kind "IDENT") (lexeme s (st .offset + 2) (e - 2))
 by-rule s name f st e RPipeLeft = finish s st e (kind "PIPE_LEFT") []
 by-rule s name f st e RPipeRight = finish s st e (kind "PIPE_RIGHT") []
@@ -205,7 +207,7 @@ act s name f st c = by-rule s name f st (c .end) (chosen-rule c)
 unfoldable pub token-turn : Bytes → Bytes → Bytes → State → Token-turn
 token-turn s name f st =
     elim (leb (length s) (st .offset)) [
-      | true ↦ done (tok (kind "EOF") [] (cur-pos s st) (cur-pos s st) NoExtra (ended st))
+      | true ↦ done (tok (kind "EOF") [] (st .offset) (cur-pos s st) (cur-pos s st) NoExtra (ended st))
       | false ↦ act s name f st (select s f (st .offset))
     ]
 

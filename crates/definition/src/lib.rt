@@ -9,7 +9,7 @@ ghost use Prim.Native.Nat.{_<_, _≤_};
 ghost use Rattle.definition.specs.State.{advance, new-line, deeper, open-comment, one-more-comment, close-level, close-last, close-comment, ended};
 
 // How many numbers a record has.
-pub const RECORD: usize = 16;
+pub const RECORD: usize = 18;
 
 // What stands at an offset of some bytes: a legal UTF-8 sequence, as its code point and its width in bytes;
 // bytes that no legal sequence starts; or the end.
@@ -177,7 +177,7 @@ pub enum Extra {
 }
 
 // An item without its payload's bytes. `length` is the payload's (of a blob: its name's), `comments` the comments so
-// far (of a comment: its own number).
+// far (of a comment: its own number). `from` and `to` are the start and end offset of the bytes that it was read from.
 pub struct Item {
     pub kind: u32,
     pub sp: Pos,
@@ -185,6 +185,8 @@ pub struct Item {
     pub length: u32,
     pub comments: u32,
     pub extra: Extra,
+    pub from: u32,
+    pub to: u32,
 }
 
 // Start's answer: a refusal number with a state of nine zeros, or 0 with the state.

@@ -37,14 +37,14 @@ module _ (s name f : Bytes) (at here : Cursor) (count used : ℕ) (rs : List ℕ
       let size = w .size in
       let long : size ≡ length-of name p = sym (short-long name p size (w .short)) in
       let r : Read = record {
-        item = item-of k (pos-of s st i) (pos-of s st to) size NoExtra (advance st to);
+        item = item-of k (st .offset) (pos-of s st i) (pos-of s st to) size NoExtra (advance st to);
         payload = p;
         next = advance st to;
         known = column-at one-each s st to;
       } in
       let reads : Reads s name f (step s name f (at .st)) r = subst (λ (t : Step). Reads s name f t r) q
       (span-reads (fits .0) (located s st i) (located s st to) (advance st to) refl refl refl (λ known.
-      token-reads s name f (bytes-of s name f p) k p (pos-of s st i) (pos-of s st to) NoExtra (advance st to) (column-at one-each s st to) size long (fits .1 f) known)) in
+      token-reads s name f (bytes-of s name f p) k p (st .offset) (pos-of s st i) (pos-of s st to) NoExtra (advance st to) (column-at one-each s st to) size long (fits .1 f) known)) in
       rw (w .after, w .spent) (wrote-ran s name f at count used rs ps awake (w .record-room) r reads size long rs′ ps′ (w .payload-room) (w .records) (w .payload name f))
 
   -- an action that was written was a token

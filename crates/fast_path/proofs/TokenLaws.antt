@@ -77,7 +77,7 @@ pub token-written : {s : Bytes} {here : Cursor} {i e : ℕ} {p : Payload} {first
     (known : AsciiRun) (rs′ : List ℕ) (ps′ : Bytes)
     → short-length p ≡ To size → record-size ≤ length rs - first → size ≤ length ps - used
     → (cols .start ≡ column-at one-each s (here .st) i .col) × (cols .end ≡ column-at one-each s (here .st) e .col) → next ≡ advance (here .st) e
-    → (rs′ ≡ put rs first (words (plain-item k (record { line = here .st .line; col = cols .start }) (record { line = here .st .line; col = cols .end }) size (here .st .comments)) used))
+    → (rs′ ≡ put rs first (words (plain-item k (record { line = here .st .line; col = cols .start }) (record { line = here .st .line; col = cols .end }) size (here .st .comments) (here .st .offset) e) used))
     × ((name f : Bytes) → ps′ ≡ put ps used (bytes-of s name f p))
     → Plain s known
     → Written s here k i e p first used rs ps (record { st = next; known = record { off = e; col = cols .end } }) (used + size) known rs′ ps′

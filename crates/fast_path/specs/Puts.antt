@@ -41,7 +41,7 @@ pub record Writes (s : Bytes) (first used : ℕ) (known : AsciiRun) (rs : List �
   pub little : used < 4294967296
   pub plain : Plain s known
 
--- what a token from i up to e asks for. No short payload has the file's name in it, so that any name will do
+-- what a token up to e asks for, whose position is that of i. No short payload has the file's name in it, so that any name will do
 pub record TokenAsks (s : Bytes) (here : Cursor) (i e : ℕ) (p : Payload) (first used : ℕ) (plain : AsciiRun) (rs : List ℕ) (ps : Bytes) : Type 0 where
   pub spans : Spans s [] here i e p
   pub inside : Inside s p
@@ -53,7 +53,7 @@ ActionAsks s here (Token k i e p) first used plain rs ps = TokenAsks s here i e 
 ActionAsks s here (Error n p) first used plain rs ps = Unit {0}
 ActionAsks s here LineComment first used plain rs ps = Unit {0}
 
--- a token from i up to e was written, and reading goes on after it
+-- a token up to e was written, whose position is that of i, and reading goes on after it
 pub record Written (s : Bytes) (here : Cursor) (k i e : ℕ) (p : Payload) (first used : ℕ) (rs : List ℕ) (ps : Bytes) (next : Cursor) (used′ : ℕ)
     (known : AsciiRun) (rs′ : List ℕ) (ps′ : Bytes) : Type 0 where
   pub size : ℕ
@@ -62,7 +62,7 @@ pub record Written (s : Bytes) (here : Cursor) (k i e : ℕ) (p : Payload) (firs
   pub payload-room : size ≤ length ps - used
   pub after : next ≡ record { st = advance (here .st) e; known = column-at one-each s (here .st) e }
   pub spent : used′ ≡ used + size
-  pub records : rs′ ≡ put rs first (words (plain-item k (pos-of s (here .st) i) (pos-of s (here .st) e) size (here .st .comments)) used)
+  pub records : rs′ ≡ put rs first (words (plain-item k (pos-of s (here .st) i) (pos-of s (here .st) e) size (here .st .comments) (here .st .offset) e) used)
   pub payload : (name f : Bytes) → ps′ ≡ put ps used (bytes-of s name f p)
   pub plain : Plain s known
 

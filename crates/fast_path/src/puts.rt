@@ -44,6 +44,8 @@ fn write_pair(
     sp: Pos,
     ep: Pos,
     comments: u32,
+    from: u32,
+    to: u32,
     payload: Payload,
     size: usize,
     first: usize,
@@ -52,7 +54,7 @@ fn write_pair(
     bytes: &mut [u8],
 )
     requires { ⌜ PairFits (now text) payload size first used (now records) (now bytes) ⌝ }
-    ensures { λ r. ⌜ (now (records .exit) ≡ put (now (records .entry)) first (words (plain-item kind sp ep size comments) used)) × ((name f : Bytes) → now (bytes .exit) ≡ put (now (bytes .entry)) used (bytes-of (now (text .entry)) name f payload)) ⌝ }
+    ensures { λ r. ⌜ (now (records .exit) ≡ put (now (records .entry)) first (words (plain-item kind sp ep size comments from to) used)) × ((name f : Bytes) → now (bytes .exit) ≡ put (now (bytes .entry)) used (bytes-of (now (text .entry)) name f payload)) ⌝ }
 {
     write_short(text, payload, size, &mut bytes[used..]);
     write_token(
@@ -61,17 +63,20 @@ fn write_pair(
         ep,
         size as u32,
         comments,
+        from,
+        to,
         used as u32,
         &mut records[first..],
     );
 }
 
-// Writes a token from byte `from` up to byte `to`, if its record and its payload fit and its payload is a short one.
+// Writes a token whose position is that of byte `start` and that ends at byte `to`, if its record and its payload fit and its
+// payload is a short one.
 fn put_token(
     text: &[u8],
     here: Cursor,
     kind: u32,
-    from: usize,
+    start: usize,
     to: usize,
     payload: Payload,
     first: usize,
@@ -80,8 +85,8 @@ fn put_token(
     records: &mut [u32],
     bytes: &mut [u8],
 ) -> PutResult
-    requires { ⌜ TokenAsks (now text) here from to payload first used plain (now records) (now bytes) ⌝ }
-    ensures { λ r. ⌜ Puts (now (text .entry)) here (Token kind from to payload) first used (now (records .entry)) (now (bytes .entry)) r (now (records .exit)) (now (bytes .exit)) ⌝ }
+    requires { ⌜ TokenAsks (now text) here start to payload first used plain (now records) (now bytes) ⌝ }
+    ensures { λ r. ⌜ Puts (now (text .entry)) here (Token kind start to payload) first used (now (records .entry)) (now (bytes .entry)) r (now (records .exit)) (now (bytes .exit)) ⌝ }
 {
     if records.len() - first < RECORD {
         return PutResult::Left;
@@ -94,8 +99,9 @@ fn put_token(
     }
     let st = here.st;
     let known = here.known;
+    let end = to as u32;
     let ascii = ascii_run(text, known, plain, to);
-    let cols = columns(text, st, known, ascii, from as u32, to as u32);
+    let cols = columns(text, st, known, ascii, start as u32, end);
     let sp = Pos {
         line: st.line,
         col: cols.start,
@@ -110,6 +116,8 @@ fn put_token(
         sp,
         ep,
         st.comments,
+        st.offset,
+        end,
         payload,
         size,
         first,
@@ -118,12 +126,12 @@ fn put_token(
         bytes,
     );
     let after = Cache {
-        off: to as u32,
+        off: end,
         col: cols.end,
     };
     PutResult::Token {
         next: Cursor {
-            st: st.advance(to as u32),
+            st: st.advance(end),
             known: after,
         },
         used: used + size,
@@ -147,7 +155,7 @@ pub fn put_action(
 {
     let Action::Token {
         kind,
-        from: begin,
+        start,
         end: to,
         payload,
     } = action
@@ -158,7 +166,7 @@ pub fn put_action(
         text,
         here,
         kind,
-        begin,
+        start,
         to,
         payload,
         first,

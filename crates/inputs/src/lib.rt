@@ -2,9 +2,11 @@
 // class file with one byte more than these may have, so that a longer one is refused and not cut.
 // Proved: each function is safe and ends; the buffers are as long as they are said to be; no more bytes are counted
 // as read than a buffer has. Assumed: what `libc` and `os` declare of reading; a read that fails counts as the end.
+use definition::RECORD;
 ghost use mathlib.Core.Path.{_≡_};
-ghost use Prim.Native.Nat.{min};
+ghost use Prim.Native.Nat.{min, _*_};
 ghost use lib.ListN.{length};
+ghost use Rattle.definition.specs.Item.{record-size};
 ghost use Rattle.io.specs.Counts.{Counts};
 
 // For a text.
@@ -29,10 +31,10 @@ pub fn parts_buffer() -> [u8; 1118211]
 }
 
 // The records of 65,536 items.
-pub fn record_buffer() -> [u32; 1048576]
-    ensures { λ r. ⌜ 1048576 ≡ length r ⌝ }
+pub fn record_buffer() -> [u32; 65536 * RECORD]
+    ensures { λ r. ⌜ 65536 * record-size ≡ length r ⌝ }
 {
-    [0; 1048576]
+    [0; 65536 * RECORD]
 }
 
 // More than the longest payload, which a text has that is one comment that is never closed.

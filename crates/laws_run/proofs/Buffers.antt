@@ -19,9 +19,9 @@ use Rattle.laws_run.specs.Split.{payload-size, item-in, items-in}
 
 -- ---- sizes
 
--- a record is 16 numbers
+-- a record is 18 numbers
 pub words-size : (t : Item) (used : ℕ) → length (words t used) ≡ record-size
-words-size t used = omega (arith, go (t .extra))
+words-size t used = omega (arith, go (t .extra), length-append (extra-words (t .extra)) (t .from ∷ t .to ∷ []))
   where
     go : (x : Extra) → length (extra-words x) ≡ 7
     go NoExtra = refl

@@ -82,14 +82,15 @@ module _ (s : Bytes) (from : ℕ) where
   unfolding comment
   comment-unroll st c = loop-unroll comment-falls _ (fuel s) st c (omega arith)
 
-  module _ (before : ℕ) (st : State) (began : from + before ≡ st .offset) where
+  module _ (st : State) (began : from ≤ st .offset) where
     -- the piece ends where one came to
-    piece : {a : State} {t : Step} → Path s st a → CommentEnd a t → Piece s before st t
+    piece : {a : State} {t : Step} → Path s st a → CommentEnd a t → Piece s from st t
     unfolding cps encode-all encode
     piece {a} p (ends {b} closed q) =
         let r = path-reads p in
         let e = path-reads q in
         record {
+          began = began;
           last = b;
           path = path-path p q;
           text = _;
@@ -108,16 +109,16 @@ module _ (s : Bytes) (from : ℕ) where
         }
 
     -- A piece of a comment.
-    pub comment-piece : st .mode ≡ 1 → Piece s before st (comment s from st)
+    pub comment-piece : st .mode ≡ 1 → Piece s from st (comment s from st)
     unfolding comment
     comment-piece m =
-        loop-keeps (comment-turn s from) (Path s st) (Piece s before st) (λ a. terminate s from (a .offset) false a)
+        loop-keeps (comment-turn s from) (Path s st) (Piece s from st) (λ a. terminate s from (a .offset) false a)
         (λ a p. leads-map (λ b g. path-path p (g .path)) (λ t e. piece p e) (comment-turn s from a) (comment-leads a (path-reads p .mode ∙ m)))
         (λ a p. piece p (ends false stay)) (fuel s) st stay
 
 -- A line's comment from b on, where a part of the text up to b, or nothing, stands before it; st is where that part begins.
 pub line-comment-form : {s name : Bytes} {U : Type 0} (pre : Bytes) (st : State) (j : ℕ) → st .offset ≤ j → Onward s (st .offset) (run-end is-newline-char s j)
-    → length pre ≤ j - st .offset → Form s name U st (line-comment s pre (advance st j))
+    → length pre ≤ j - st .offset → Form s name U st (line-comment s (st .offset) pre (advance st j))
 unfolding line-comment
 line-comment-form {s} pre st j h o l =
     a-line (pre ++ lexeme s j (run-end is-newline-char s j)) _ _ o

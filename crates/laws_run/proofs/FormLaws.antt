@@ -51,12 +51,12 @@ awake-small m = by-test (λ (n : ℕ). n ≤ 1) (eqb m 2) (λ _. omega arith) (�
 
 -- an item that is no blob has its payload's length in word 7, and so has a comment; a blob has its name's length there, and its
 -- contents' in word 10
-plain-measured : {x : Extra} (k : ℕ) (text : Bytes) (sp ep : Pos) (next : State) → Plain x → Measured (tok k text sp ep x next)
+plain-measured : {x : Extra} {from : ℕ} (k : ℕ) (text : Bytes) (sp ep : Pos) (next : State) → Plain x → Measured (tok k text from sp ep x next)
 unfolding payload-size
 plain-measured k text sp ep next nothing = record { size = λ used. add-zero (length text) }
 plain-measured k text sp ep next (code-point c) = record { size = λ used. add-zero (length text) }
 
-comment-measured : (text : Bytes) (sp ep : Pos) (closed : Bool) (next : State) → Measured (add-comment text sp ep closed next)
+comment-measured : {from : ℕ} (text : Bytes) (sp ep : Pos) (closed : Bool) (next : State) → Measured (add-comment text from sp ep closed next)
 unfolding payload-size
 comment-measured text sp ep true next = record { size = λ used. add-zero (length text) }
 comment-measured text sp ep false next = record { size = λ used. add-zero (length text) }
@@ -78,7 +78,7 @@ closing s a h = by-lt (Closing s a) 1 (a .depth)
     (λ k. record { offset = refl; less = omega arith; opened = λ m. absurd (omega arith); paid = omega arith; goes-on = λ m. absurd (omega arith) })
 
 module _ {s : Bytes} {st : State} where
-  module _ {n : ℕ} {t : Step} (level-open : 1 ≤ st .depth) (p : Piece s n st t) where
+  module _ {from : ℕ} {t : Step} (level-open : 1 ≤ st .depth) (p : Piece s from st t) where
     r : Reads s st (p .last)
     r = path-reads (p .path)
 
@@ -99,26 +99,26 @@ module _ {s : Bytes} {st : State} where
     pub piece-measured : Measured t
     piece-measured = subst Measured (sym (p .is)) (comment-measured (p .text) (p .sp) (p .ep) (p .closed) (close-comment (p .last)))
 
-    -- so many bytes before st are paid besides
-    pub piece-bounded : st .offset ≤ length s → length (t .payload) + budget s (t .next) ≤ n + most s st
+    -- the piece's bytes before st are paid besides
+    pub piece-bounded : st .offset ≤ length s → length (t .payload) + budget s (t .next) ≤ (st .offset - from) + most s st
     piece-bounded l =
-        subst (λ (x : Step). length (x .payload) + budget s (x .next) ≤ n + most s st) (sym (p .is))
-        (omega (arith, p .small, r .spent l, c .paid, budget-most s (close-comment (p .last))))
+        subst (λ (x : Step). length (x .payload) + budget s (x .next) ≤ (st .offset - from) + most s st) (sym (p .is))
+        (omega (arith, p .began, p .small, r .ahead .forward, r .spent l, c .paid, budget-most s (close-comment (p .last))))
 
-    pub piece-short : st .offset ≤ length s → n ≤ st .offset → length (t .payload) ≤ length s + 2
-    piece-short l k = subst (λ (x : Step). length (x .payload) ≤ length s + 2) (sym (p .is)) (omega (arith, p .small, r .ahead .within l))
+    pub piece-short : st .offset ≤ length s → length (t .payload) ≤ length s + 2
+    piece-short l = subst (λ (x : Step). length (x .payload) ≤ length s + 2) (sym (p .is)) (omega (arith, p .small, r .ahead .within l))
 
-  pub piece-sound : {n : ℕ} {t : Step} → Piece s n st t → Stands s st → st .mode ≡ 1 → Stands s (t .next)
+  pub piece-sound : {from : ℕ} {t : Step} → Piece s from st t → Stands s st → st .mode ≡ 1 → Stands s (t .next)
   piece-sound p h m =
       subst (λ (x : Step). Stands s (x .next)) (sym (p .is)) (closing-stands (path-stands (p .path) h) (path-reads (p .path) .mode ∙ m))
 
 -- a piece that is carried over from an earlier run, or goes on in this one
-pub piece-kept : {s name : Bytes} {st : State} {t : Step} → 1 ≤ st .depth → st .mode ≡ 1 → Piece s 0 st t → Kept s name st t
+pub piece-kept : {s name : Bytes} {st : State} {t : Step} → 1 ≤ st .depth → st .mode ≡ 1 → Piece s (st .offset) st t → Kept s name st t
 piece-kept d m p = record {
   gives = piece-gives d p;
   sound = λ h. piece-sound p h m;
   bounded = λ h _. omega (arith, piece-bounded d p (stands-within h));
-  short = λ h _. omega (arith, piece-short d p (stands-within h) (omega arith));
+  short = λ h _. omega (arith, piece-short d p (stands-within h));
   measured = piece-measured d p;
 }
 
@@ -220,7 +220,7 @@ module _ {s name : Bytes} {U : Type 0} {st : State} where
   form-short (blob k title contents sp ep pos snap p l b) h n =
       omega (arith, length-append title contents, path-reads p .ahead .within (stands-within h))
   form-short (line text sp ep o b) h n = omega (arith, o .within)
-  form-short (opened o p) h n = omega (arith, piece-short (omega arith) p (o .within) (omega (arith, o .past)))
+  form-short (opened o p) h n = omega (arith, piece-short (omega arith) p (o .within))
   form-short (error n′ text from to p b u) h n = omega arith
 
   -- Every form keeps all of it.
@@ -236,7 +236,7 @@ module _ {s name : Bytes} {U : Type 0} {st : State} where
 -- ---- the text's end, and what is skipped before an item
 
 -- at its end a text gives EOF
-pub eof-kept : {s name : Bytes} (st : State) (sp ep : Pos) → (Stands s st → st .mode ≡ 0) → Kept s name st (tok (kind "EOF") [] sp ep NoExtra (ended st))
+pub eof-kept : {s name : Bytes} (st : State) (sp ep : Pos) → (Stands s st → st .mode ≡ 0) → Kept s name st (tok (kind "EOF") [] (st .offset) sp ep NoExtra (ended st))
 unfolding budget
 eof-kept st sp ep m = record {
   gives = record { clean = λ c. c; within = λ h. h; less = omega arith; opened = λ _ n. absurd (omega arith) };

@@ -35,26 +35,27 @@ pub data Plain : Extra → Type 0 where
   nothing : Plain NoExtra
   code-point : (c : ℕ) → Plain (CharLit c)
 
--- a piece of a comment, of which so many bytes stand before st
-pub record Piece (s : Bytes) (before : ℕ) (st : State) (t : Step) : Type 0 where
+-- a piece of a comment that began at byte `from` and is read on from st
+pub record Piece (s : Bytes) (from : ℕ) (st : State) (t : Step) : Type 0 where
+  pub began : from ≤ st .offset
   pub last : State
   pub path : Path s st last
   pub text : Bytes
   pub sp : Pos
   pub ep : Pos
   pub closed : Bool
-  pub is : t ≡ add-comment text sp ep closed (close-comment last)
-  pub small : length text ≤ before + (last .offset - st .offset) + 2
+  pub is : t ≡ add-comment text from sp ep closed (close-comment last)
+  pub small : length text ≤ (last .offset - from) + 2
 
 -- what is read from st on; U is what an error of number 6 says
 pub data Form (s name : Bytes) (U : Type 0) (st : State) : Step → Type 0 where
   token : {a : State} {x : Extra} (k : ℕ) (text : Bytes) (sp ep : Pos) → Plain x → Path s st a → st .offset < a .offset → Small name st a text
-      → Form s name U st (tok k text sp ep x a)
+      → Form s name U st (tok k text (st .offset) sp ep x a)
   blob : {a : State} (k : ℕ) (title contents : Bytes) (sp ep pos snap : Pos) → Path s st a → st .offset < a .offset
-      → length title + length contents ≤ a .offset - st .offset → Form s name U st (blob-tok k title contents sp ep pos snap a)
+      → length title + length contents ≤ a .offset - st .offset → Form s name U st (blob-tok k title contents (st .offset) sp ep pos snap a)
   line : {j : ℕ} (text : Bytes) (sp ep : Pos) → Onward s (st .offset) j → length text ≤ j - st .offset
-      → Form s name U st (add-comment text sp ep true (one-more-comment (advance st j)))
-  opened : {e : ℕ} {t : Step} → Onward s (st .offset) e → Piece s (e - st .offset) (open-comment (advance st e) (cur-pos s st)) t → Form s name U st t
+      → Form s name U st (add-comment text (st .offset) sp ep true (one-more-comment (advance st j)))
+  opened : {e : ℕ} {t : Step} → Onward s (st .offset) e → Piece s (st .offset) (open-comment (advance st e) (cur-pos s st)) t → Form s name U st t
   error : {a : State} (n : ℕ) (text : Bytes) (from to : Pos) → Path s st a → length text ≤ length s - a .offset → (n ≡ 6 → U)
       → Form s name U st (lex-error s a n text from to)
 

@@ -52,7 +52,7 @@ module _ (s name f : Bytes) where
       -- "Each item is what one step of the plain definition gives": from the state after the items before it. Their records and payloads
       -- stand in the buffers, from the fronts on; "numbers and bytes past the last written item and its payload keep what they held"; "the
       -- state handed back is the one after the last written item, or the given one if none is written"; and the run stops "at the end (stop
-      -- 0), fewer than 16 record numbers left (stop 1), or a payload longer than the bytes left (stop 2)".
+      -- 0)", with "fewer than 18 numbers left" (stop 1, by document 02), "or a payload longer than the bytes left (stop 2)".
       pub run-done : Done s name f st rs ps (run s name f st rs ps)
       run-done = end .done
 

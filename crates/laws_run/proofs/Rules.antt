@@ -189,8 +189,8 @@ module _ (s name : Bytes) (U : Type 0) (st : State) where
     pub rule-says : (f : Bytes) (r : Rule) → Asks s U st e r → Says s name U st (by-rule s name f st e r)
     unfolding constructors uoperators cps encode-all encode
     rule-says f (REarly k) h = short-up-to (kind k) [] o (omega arith)
-    rule-says f RTripleBacktick h = blob-form (blob-header s st e 3) st o (title 3)
-    rule-says f RLang h = lang-form (blob-header s st e 6) st o (title 6)
+    rule-says f RTripleBacktick h = blob-form (blob-header s st e 3) st refl o (title 3)
+    rule-says f RLang h = lang-form (blob-header s st e 6) st refl o (title 6)
     rule-says f RSourceFile h = up-to (kind "STRING") name o (λ _. inr (omega arith, h))
     rule-says f RLine h = up-to (kind "INT") (show (st .line)) o (λ l. inl (omega (arith, line-size (st .line) l)))
     rule-says f RFileLine h = file-line-says h
@@ -208,11 +208,11 @@ module _ (s name : Bytes) (U : Type 0) (st : State) where
     rule-says f (RNumber k) h = number-says (kind k)
     rule-says f RReal h = part-up-to (kind "REAL") i (e - 1) (omega arith) (omega arith)
     rule-says f RBadNumber h = error {a = st} 5 (lexeme s i e) _ _ stay (omega (arith, part-within s i e)) (λ q. absurd (omega arith))
-    rule-says f RCommentStart h = opened o (comment-piece s i (e - i) (open-comment (advance st e) (cur-pos s st)) (omega (arith, o .past)) refl)
+    rule-says f RCommentStart h = opened o (comment-piece s i (open-comment (advance st e) (cur-pos s st)) (omega (arith, o .past)) refl)
     rule-says f RInFStar h = goes-on st o
     rule-says f RLineComment h =
         line-comment-form (lexeme s i e) st e (omega (arith, o .past)) (onward-walk o (star-walks (λ c. not (is-newline-char c)) s e)) (part-size s i e)
-    rule-says f RString h = string-form s f (cur-pos s st) st o
+    rule-says f RString h = string-form s f i (cur-pos s st) st refl o
     rule-says f RBacktickIdent h = part-up-to (kind "IDENT") (i + 2) (e - 2) (omega arith) (omega arith)
     rule-says f RPipeLeft h = short-up-to (kind "PIPE_LEFT") [] o (omega arith)
     rule-says f RPipeRight h = short-up-to (kind "PIPE_RIGHT") [] o (omega arith)

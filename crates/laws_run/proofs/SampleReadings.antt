@@ -182,13 +182,13 @@ minus-slashes f name every = decided (select (cps "-//c") f 0) (minus-slashes-de
 -- its token is cut before `//`, so that the next reading position is at byte 1
 minus-read : (f name : Bytes) (c : Choice) → c .place ≡ 47 → c .end ≡ 3
     → act (cps "-//c") name f (started 1 0) c
-    ≡ done (tok (kind "OPINFIX2") (cps "-") (cur-pos (cps "-//c") (started 1 0)) (cur-pos (cps "-//c") (advance (started 1 0) 1)) NoExtra (advance (started 1 0) 1))
+    ≡ done (tok (kind "OPINFIX2") (cps "-") 0 (cur-pos (cps "-//c") (started 1 0)) (cur-pos (cps "-//c") (advance (started 1 0) 1)) NoExtra (advance (started 1 0) 1))
 unfolding act chosen-rule place-rules no-comment loop byte-has cps encode-all encode
 minus-read f name c p e = rw (p, e) refl
 
 minus-turn : (f name : Bytes) → select (cps "-//c") f 0 .place ≡ 47 → select (cps "-//c") f 0 .end ≡ 3
     → token-turn (cps "-//c") name f (started 1 0)
-    ≡ done (tok (kind "OPINFIX2") (cps "-") (cur-pos (cps "-//c") (started 1 0)) (cur-pos (cps "-//c") (advance (started 1 0) 1)) NoExtra (advance (started 1 0) 1))
+    ≡ done (tok (kind "OPINFIX2") (cps "-") 0 (cur-pos (cps "-//c") (started 1 0)) (cur-pos (cps "-//c") (advance (started 1 0) 1)) NoExtra (advance (started 1 0) 1))
 unfolding token-turn cps encode-all encode
 minus-turn f name p e = minus-read f name (select (cps "-//c") f 0) p e
 

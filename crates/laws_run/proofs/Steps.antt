@@ -131,7 +131,7 @@ outside-zero {s} {st} n h =
 
 module _ (s name f : Bytes) where
   -- what is done with the choice at st; error 6 says that none of the places was chosen
-  act-says : (st : State) → st .offset ≤ length s → Says s name (select s f (st .offset) .place ≡ 0) st (act s name f st (select s f (st .offset)))
+  pub act-says : (st : State) → st .offset ≤ length s → Says s name (select s f (st .offset) .place ≡ 0) st (act s name f st (select s f (st .offset)))
   unfolding act chosen-rule
   act-says st h = go (c .place) refl
     where
@@ -212,7 +212,7 @@ module _ (s name f : Bytes) where
   unfolding step
   step-kept st o n =
       by-test (Kept s name st) (eqb (st .mode) 1)
-      (λ t. let m = eqb-true (st .mode) 1 t in piece-kept (o m) m (comment-piece s (st .offset) 0 st (omega arith) m))
+      (λ t. let m = eqb-true (st .mode) 1 t in piece-kept (o m) m (comment-piece s (st .offset) st (omega arith) m))
       (λ t. next-token-kept st record { no-comment = eqb-false (st .mode) 1 t; going = n })
 
   -- A step from a sound state comes to one.
@@ -236,7 +236,7 @@ module _ (s name f : Bytes) where
   reached-stands (gave {st} {t} r m e) h =
       let v : Kept s name st t = subst (Leads (Goes s (Unit {0}) st) (Kept s name st)) e (turn-keeps st (zero-outside m)) in
       v .sound (reached-stands r h)
-  reached-stands (carried {st} r m) h = piece-sound (comment-piece s (st .offset) 0 st (omega arith) m) (reached-stands r h) m
+  reached-stands (carried {st} r m) h = piece-sound (comment-piece s (st .offset) st (omega arith) m) (reached-stands r h) m
 
 -- What a run can write of payloads at all: 402 bytes for each of the longest text.
 pub budget-small : (s : Bytes) (st : State) → Stands s st → budget s st ≤ 421527552

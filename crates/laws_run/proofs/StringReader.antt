@@ -78,11 +78,11 @@ module _ (s : Bytes) where
           (either (eqb x (ch "\"")) (is-newline-char x) (λ t. ascii (small-is (ch "\"") (omega arith) x t))
           (λ t. absurd (newline-found i x (p .width) (p .read) t n))) e
 
-  module _ (f : Bytes) (sp : Pos) where
+  module _ (f : Bytes) (from : ℕ) (sp : Pos) where
     -- a string that is read as far as acc ends at st: with its quote, or in an error
     pub data StringEnd (st : State) (acc : Bytes) : Step → Type 0 where
       quote : Onward s (st .offset) (st .offset + 1)
-          → StringEnd st acc (tok (kind "STRING") acc sp (cur-pos s (advance st (st .offset + 1))) NoExtra (advance st (st .offset + 1)))
+          → StringEnd st acc (tok (kind "STRING") acc from sp (cur-pos s (advance st (st .offset + 1))) NoExtra (advance st (st .offset + 1)))
       fails : (n : ℕ) → (n ≡ 6 → ⊥) → StringEnd st acc (error-here s st n)
 
     -- a turn goes on from a to b, with four bytes more for each byte that is read
@@ -97,7 +97,7 @@ module _ (s : Bytes) where
         record { goes = g; more = omega (arith, length-append acc (lexeme s i (b .offset)), part-size s i (b .offset)) }
 
     -- a turn of `string-lit`
-    pub string-leads : (a : State × Bytes) → Leads (Grows a) (StringEnd (a .0) (a .1)) (string-turn s f sp a)
+    pub string-leads : (a : State × Bytes) → Leads (Grows a) (StringEnd (a .0) (a .1)) (string-turn s f from sp a)
     unfolding match-low-half escape-turn
     string-leads a =
         by-lt L i j (λ h. grows-by-part st (advance st j) acc (goes-on st (walk-past (star-walks _ s i) h))) λ run.
@@ -150,30 +150,30 @@ module _ (s : Bytes) where
             (λ _. escaped c e o)
 
     -- each turn reads something
-    pub string-falls : Falls (string-turn s f sp) (λ a. Any (a .0)) (λ a. rest s (a .0 .offset)) Any
-    string-falls = record { at = λ a _. leads-map (λ b g. (tt, g .goes .moves tt)) (λ t _. tt) (string-turn s f sp a) (string-leads a) }
+    pub string-falls : Falls (string-turn s f from sp) (λ a. Any (a .0)) (λ a. rest s (a .0 .offset)) Any
+    string-falls = record { at = λ a _. leads-map (λ b g. (tt, g .goes .moves tt)) (λ t _. tt) (string-turn s f from sp a) (string-leads a) }
 
     -- from a sound state between comments a turn comes to one
     pub string-turn-stands : (a : State × Bytes) → Stands s (a .0) → a .0 .mode ≡ 0
-        → Leads (λ b. Stands s (b .0) × (b .0 .mode ≡ 0)) (λ t. Stands s (t .next)) (string-turn s f sp a)
-    string-turn-stands a h m = leads-map (λ b g. let k = goes-stands (g .goes) h in (k .0, k .1 ∙ m)) end (string-turn s f sp a) (string-leads a)
+        → Leads (λ b. Stands s (b .0) × (b .0 .mode ≡ 0)) (λ t. Stands s (t .next)) (string-turn s f from sp a)
+    string-turn-stands a h m = leads-map (λ b g. let k = goes-stands (g .goes) h in (k .0, k .1 ∙ m)) end (string-turn s f from sp a) (string-leads a)
       where
         end : (t : Step) → StringEnd (a .0) (a .1) t → Stands s (t .next)
         end t (quote o) = walk-stands h (o .walk)
         end t (fails n u) = ended-stands h m
 
     -- more fuel and another `out` change nothing
-    pub string-enough : (out : State × Bytes → Step) (n : ℕ) (a : State × Bytes) → rest s (a .0 .offset) < n → loop (string-turn s f sp) out n a ≡ string-from s f sp a
+    pub string-enough : (out : State × Bytes → Step) (n : ℕ) (a : State × Bytes) → rest s (a .0 .offset) < n → loop (string-turn s f from sp) out n a ≡ string-from s f from sp a
     unfolding string-from
     string-enough out n a h = loop-same string-falls out _ n (fuel s) a tt h (omega arith)
 
     -- the loop is what its first turn says
-    pub string-unroll : (a : State × Bytes) → string-from s f sp a ≡ says (string-turn s f sp a) (string-from s f sp)
+    pub string-unroll : (a : State × Bytes) → string-from s f from sp a ≡ says (string-turn s f from sp a) (string-from s f from sp)
     unfolding string-from
     string-unroll a = loop-unroll string-falls _ (fuel s) a tt (omega arith)
 
     -- what `string-lit` is, by its loop
-    pub string-is : (st : State) → string-lit s f st sp ≡ string-from s f sp (st, [])
+    pub string-is : (st : State) → string-lit s f st from sp ≡ string-from s f from sp (st, [])
     unfolding string-lit string-from
     string-is st = refl
 
@@ -188,16 +188,18 @@ module _ (s : Bytes) where
         let r = path-reads (g .goes .path) in
         record { path = path-path (p .path) (g .goes .path); past = omega (arith, p .past, r .ahead .forward); few = omega (arith, p .few, g .more, p .past, r .ahead .forward) }
 
-    literal-ends : {name : Bytes} {U : Type 0} {st : State} {a : State × Bytes} {t : Step} → Literal st a → StringEnd (a .0) (a .1) t → Form s name U st t
-    literal-ends {a = a} p (quote o) =
-        token (kind "STRING") (a .1) sp _ nothing (on (a .0 .offset + 1) (p .path) (walk-ahead (o .walk))) (omega (arith, p .past)) (λ _. inl (omega (arith, p .few, p .past)))
-    literal-ends {a = a} p (fails n u) = error n [] _ _ (p .path) (omega arith) (λ q. absurd (u q))
+    literal-ends : {name : Bytes} {U : Type 0} {st : State} {a : State × Bytes} {t : Step} → from ≡ st .offset → Literal st a → StringEnd (a .0) (a .1) t
+        → Form s name U st t
+    literal-ends {a = a} q p (quote o) =
+        rw q (token (kind "STRING") (a .1) sp _ nothing (on (a .0 .offset + 1) (p .path) (walk-ahead (o .walk))) (omega (arith, p .past)) (λ _. inl (omega (arith, p .few, p .past))))
+    literal-ends {a = a} q p (fails n u) = error n [] _ _ (p .path) (omega arith) (λ q. absurd (u q))
 
     -- A string that was opened by the part up to e.
-    pub string-form : {name : Bytes} {U : Type 0} (st : State) {e : ℕ} → Onward s (st .offset) e → Form s name U st (string-lit s f (advance st e) sp)
+    pub string-form : {name : Bytes} {U : Type 0} (st : State) {e : ℕ} → from ≡ st .offset → Onward s (st .offset) e
+        → Form s name U st (string-lit s f (advance st e) from sp)
     unfolding string-lit
-    string-form {name} {U} st {e} o =
-        loop-keeps (string-turn s f sp) (Literal st) (Form s name U st) (λ a. error-here s (a .0) 1)
-        (λ a p. leads-map (λ b g. literal-on p g) (λ t q. literal-ends p q) (string-turn s f sp a) (string-leads a))
-        (λ a p. literal-ends p (fails 1 (λ n. absurd (omega arith)))) (fuel s) (advance st e, [])
+    string-form {name} {U} st {e} q o =
+        loop-keeps (string-turn s f from sp) (Literal st) (Form s name U st) (λ a. error-here s (a .0) 1)
+        (λ a p. leads-map (λ b g. literal-on p g) (λ t x. literal-ends q p x) (string-turn s f from sp a) (string-leads a))
+        (λ a p. literal-ends q p (fails 1 (λ n. absurd (omega arith)))) (fuel s) (advance st e, [])
         record { path = on e stay (walk-ahead (o .walk)); past = o .past; few = omega arith }

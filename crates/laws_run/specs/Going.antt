@@ -9,9 +9,9 @@ use Rattle.definition.specs.Run.{Outcome, Writing, stopped, run-turn, most-item
 use Rattle.definition.specs.declared.Pos.{Pos}
 use Rattle.definition.specs.declared.State.{State}
 
--- `string-lit`, with what is read of the literal; sp is where it began
-unfoldable pub string-from : Bytes → Bytes → Pos → State × Bytes → Step
-string-from s f sp a = loop (string-turn s f sp) (λ a. error-here s (a .0) 1) (fuel s) a
+-- `string-lit`, with what is read of the literal, which began at byte `from`, whose position is sp
+unfoldable pub string-from : Bytes → Bytes → ℕ → Pos → State × Bytes → Step
+string-from s f from sp a = loop (string-turn s f from sp) (λ a. error-here s (a .0) 1) (fuel s) a
 
 -- `blob` and `use-lang`, whose contents begin at byte `from`
 unfoldable pub blob-from : Bytes → ℕ → Header → State → Step

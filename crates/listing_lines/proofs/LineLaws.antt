@@ -136,7 +136,7 @@ below-at n (i ∷ is) e zero h = leb-true (suc i) n (both (leb (suc i) n) (all-b
 below-at n (i ∷ is) e (suc k) h = below-at n is (both (leb (suc i) n) (all-below n is) e .1) k h
 
 pub shown-below : (k : ℕ) → getD shown k 0 < record-size
-shown-below k = below-at 16 shown refl k (omega arith)
+shown-below k = below-at record-size shown refl k (omega arith)
 
 -- the first k of the numbers are written
 pub record Numbered (ws before : List ℕ) (at k : ℕ) (after : List ℕ) : Type 0 where
@@ -211,8 +211,8 @@ lines-on (suc k) rs =
     ∙ lines-on k (drop record-size rs))
 
 -- a record, from its first number up to the next record's
-pub record-at : (k : ℕ) (rs : List ℕ) → take ((16 * k + 16) - 16 * k) (drop (16 * k) rs) ≡ take record-size (drop (record-size * k) rs)
-record-at k rs = let e : (16 * k + 16) - 16 * k ≡ 16 = omega arith in rw e
+pub record-at : (k : ℕ) (rs : List ℕ) → take ((record-size * k + record-size) - record-size * k) (drop (record-size * k) rs) ≡ take record-size (drop (record-size * k) rs)
+record-at k rs = let e : (record-size * k + record-size) - record-size * k ≡ record-size = omega arith in rw e
 
 -- the lines of the first k records are written
 pub record Lined (rs before : List ℕ) (at k : ℕ) (after : List ℕ) : Type 0 where

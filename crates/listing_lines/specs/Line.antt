@@ -35,7 +35,7 @@ numbers (n ∷ ns) = (ch " " ∷ show n) ++ numbers ns
 abbrev pub head : List ℕ → Bytes
 head ws = letter (getD ws 0 0) ∷ ch " " ∷ name-of (getD ws 1 0)
 
--- the line of an item, by the sixteen numbers of its record
+-- the line of an item, by the eighteen numbers of its record
 unfoldable pub line : List ℕ → Bytes
 line ws = head ws ++ (numbers (map (λ i. getD ws i 0) shown) ++ (ch "\n" ∷ []))
 

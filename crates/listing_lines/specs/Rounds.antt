@@ -1,11 +1,11 @@
 -- What the listing's runs are lent, where they begin, and what a round of the listing, one run, promises.
-use Prim.Native.Nat.{ℕ, _≤_}
+use Prim.Native.Nat.{ℕ, _*_, _≤_}
 use mathlib.Core.Path.{_≡_}
 use mathlib.Core.List.{List, [], _∷_, _++_}
 use lib.ListN.{length}
 use Rattle.definition.specs.Basics.{Bytes}
 use Rattle.definition.specs.State.{started}
-use Rattle.definition.specs.Item.{Step, words}
+use Rattle.definition.specs.Item.{Step, record-size, words}
 use Rattle.definition.specs.Run.{Outcome, refusal}
 use Rattle.definition.specs.declared.RunAnswer.{RunAnswer}
 use Rattle.definition.specs.declared.State.{State}
@@ -24,7 +24,7 @@ pub record Begun (s : Bytes) (st : State) : Type 0 where
 
 -- records for 1,024 items, a payload that has room for any of a listed text, and room for the items' lines
 pub record Lent (rs : List ℕ) (ps out : Bytes) : Type 0 where
-  pub records : length rs ≡ 16384
+  pub records : length rs ≡ 1024 * record-size
   pub payload : length ps ≡ 262144
   pub lines : length out ≡ 108544
 

@@ -3,11 +3,14 @@
 // a line for each item (proofs/Whole.antt), and each round but the last lists an item (proofs/RunsOn.antt); the buffers are as
 // long as they are said to be. Assumed: nothing but what each function's `requires` says.
 use crate::lines_into;
+use definition::RECORD;
 use definition::RunAnswer;
 use definition::State;
 ghost use mathlib.Core.Path.{_≡_};
+ghost use Prim.Native.Nat.{_*_};
 ghost use lib.Dec.{ltb};
 ghost use lib.ListN.{length};
+ghost use Rattle.definition.specs.Item.{record-size};
 ghost use Rattle.listing_lines.specs.Writing.{Room};
 ghost use Rattle.listing_lines.specs.Rounds.{Told};
 
@@ -19,10 +22,10 @@ pub fn too_long(bytes: usize) -> bool
 }
 
 // Space for the records of 1,024 items.
-pub fn record_buffer() -> [u32; 16384]
-    ensures { λ r. ⌜ 16384 ≡ length r ⌝ }
+pub fn record_buffer() -> [u32; 1024 * RECORD]
+    ensures { λ r. ⌜ 1024 * record-size ≡ length r ⌝ }
 {
-    [0; 16384]
+    [0; 1024 * RECORD]
 }
 
 // Space for their lines, of which none has more than 106 bytes.

@@ -31,9 +31,11 @@ ghost use Rattle.reader.specs.Described.{Reads, Turns};
 ghost use Rattle.read_blob.specs.Moves.{contents-move, inside-move, blob-move, lang-move, move-at};
 ghost use Rattle.read_blob.specs.Contents.{header-of, kind-of, contents-turn, contents, blob-step, InBlob};
 
-// What a blob's header says: where its name stands in the text, the position after it, and its start.
+// What a blob's header says: where it begins in the text, where its name does, and where both end; the position after it,
+// and its start.
 pub struct Header {
-    pub from: usize,
+    pub from: u32,
+    pub name: usize,
     pub to: usize,
     pub pos: Pos,
     pub snap: Pos,
@@ -137,16 +139,19 @@ fn closed(text: &[u8], header: Header, lang: bool, from: usize, at: Cursor, e: u
         pos: pos,
         snap: snap,
     };
+    let next = st.advance(e as u32);
     let item = Item {
         kind: kind_of(lang),
         sp: sp,
         ep: ep,
-        length: span(header.from, header.to) as u32,
-        comments: st.comments,
+        length: span(header.name, header.to) as u32,
+        comments: next.comments,
         extra: extra,
+        from: header.from,
+        to: next.offset,
     };
     let payload = Payload::Blob {
-        from: header.from,
+        from: header.name,
         to: header.to,
         contents: from,
         end: i,
@@ -154,7 +159,7 @@ fn closed(text: &[u8], header: Header, lang: bool, from: usize, at: Cursor, e: u
     Read {
         item: item,
         payload: payload,
-        next: st.advance(e as u32),
+        next: next,
         known: here,
     }
 }

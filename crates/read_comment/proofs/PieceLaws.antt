@@ -44,7 +44,16 @@ module _ {s : Bytes} {to : ℕ} {at : Cursor} (from : ℕ) (h : Ending s to at) 
       → end ≡ located s (at .st) (at .st .offset)
       → next ≡ close-comment (at .st)
       → ReadsAny s (terminate s from to closed (at .st)) (record {
-        item = record { kind = 0; sp = at .st .comment; ep = end .pos; length = n; comments = next .comments; extra = Comment closed };
+        item = record {
+          kind = 0;
+          sp = at .st .comment;
+          ep = end .pos;
+          length = n;
+          comments = next .comments;
+          extra = Comment closed;
+          from = from;
+          to = next .offset;
+        };
         payload = Piece from to width n;
         next = next;
         known = end .known;

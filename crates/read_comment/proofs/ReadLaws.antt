@@ -57,8 +57,17 @@ module _ {s : Bytes} {from to : ℕ} {at : Cursor} (h : After s from at) (e : to
       → start ≡ located s (at .st) (at .st .offset)
       → end ≡ located s (at .st) to
       → next ≡ one-more-comment (advance (at .st) to)
-      → ReadsAny s (line-comment s (lexeme s from (at .st .offset)) (at .st)) (record {
-        item = record { kind = 0; sp = start .pos; ep = end .pos; length = n; comments = next .comments; extra = Comment true };
+      → ReadsAny s (line-comment s from (lexeme s from (at .st .offset)) (at .st)) (record {
+        item = record {
+          kind = 0;
+          sp = start .pos;
+          ep = end .pos;
+          length = n;
+          comments = next .comments;
+          extra = Comment true;
+          from = from;
+          to = next .offset;
+        };
         payload = Part from to;
         next = next;
         known = end .known;

@@ -29,14 +29,15 @@ ghost use Rattle.read_comment.specs.LineCommentContracts.{ReadsAny};
 ghost use Rattle.read_comment.specs.CommentContracts.{InComment, AtStop, AtMark, Ending, TurnsAny};
 
 // The piece that began at byte `from` and whose text ends at byte `to`; the reader stands after it.
-fn terminate(text: &[u8], from: usize, to: usize, closed: bool, at: Cursor) -> Read
+fn terminate(text: &[u8], from: u32, to: usize, closed: bool, at: Cursor) -> Read
     requires { ⌜ Ending (now text) to at ⌝ }
     ensures { λ r. ⌜ ReadsAny (now (text .entry)) (terminate (now (text .entry)) from to closed (at .st)) r ⌝ }
 {
     let st = at.st;
     let known = at.known;
-    let width = trim_width(text, from, to, st.comment.col as usize);
-    let length = trimmed_length(text, from, to, width);
+    let begin = from as usize;
+    let width = trim_width(text, begin, to, st.comment.col as usize);
+    let length = trimmed_length(text, begin, to, width);
     let here = pos_of(text, st, known, st.offset);
     let next = st.close_comment();
     let sp = st.comment;
@@ -48,9 +49,11 @@ fn terminate(text: &[u8], from: usize, to: usize, closed: bool, at: Cursor) -> R
         length: length as u32,
         comments: next.comments,
         extra: Extra::Comment(closed),
+        from: from,
+        to: next.offset,
     };
     let payload = Payload::Piece {
-        from: from,
+        from: begin,
         to: to,
         width: width,
         length: length,
@@ -66,7 +69,7 @@ fn terminate(text: &[u8], from: usize, to: usize, closed: bool, at: Cursor) -> R
 
 // Where neither a run stands nor a level is opened nor a line ends: a level may be closed, or the text may end; else a
 // single `(` or `*` is passed.
-fn at_mark(text: &[u8], from: usize, at: Cursor) -> ReadResult
+fn at_mark(text: &[u8], from: u32, at: Cursor) -> ReadResult
     requires { ⌜ AtMark (now text) at ⌝ }
     ensures { λ r. ⌜ TurnsAny (now (text .entry)) (comment-turn (now (text .entry)) from (at .st)) r ⌝ }
 {
@@ -82,7 +85,7 @@ fn at_mark(text: &[u8], from: usize, at: Cursor) -> ReadResult
 }
 
 // Where no run of other characters stands: a level may be opened, or a line may end.
-fn at_stop(text: &[u8], from: usize, at: Cursor) -> ReadResult
+fn at_stop(text: &[u8], from: u32, at: Cursor) -> ReadResult
     requires { ⌜ AtStop (now text) at ⌝ }
     ensures { λ r. ⌜ TurnsAny (now (text .entry)) (comment-turn (now (text .entry)) from (at .st)) r ⌝ }
 {
@@ -104,7 +107,7 @@ fn at_stop(text: &[u8], from: usize, at: Cursor) -> ReadResult
 }
 
 // One turn of the reading: a run of other characters is passed whole.
-fn comment_turn(text: &[u8], from: usize, at: Cursor) -> ReadResult
+fn comment_turn(text: &[u8], from: u32, at: Cursor) -> ReadResult
     requires { ⌜ InComment (now text) at ⌝ }
     ensures { λ r. ⌜ TurnsAny (now (text .entry)) (comment-turn (now (text .entry)) from (at .st)) r ⌝ }
 {
@@ -118,7 +121,7 @@ fn comment_turn(text: &[u8], from: usize, at: Cursor) -> ReadResult
 }
 
 // The next piece of the comment that the reader stands in; the piece began at byte `from`.
-pub fn comment(text: &[u8], from: usize, at: Cursor) -> Read
+pub fn comment(text: &[u8], from: u32, at: Cursor) -> Read
     requires { ⌜ InComment (now text) at ⌝ }
     ensures { λ r. ⌜ ReadsAny (now (text .entry)) (comment (now (text .entry)) from (at .st)) r ⌝ }
 {

@@ -18,12 +18,13 @@ ghost use Rattle.definition.specs.Comment.{line-comment};
 ghost use Rattle.read_comment.specs.LineCommentContracts.{After, ReadsAny};
 
 // The rest of the line from where the reader stands, and before it the bytes from `from` up to there.
-pub fn line_comment(text: &[u8], from: usize, at: Cursor) -> Read
+pub fn line_comment(text: &[u8], from: u32, at: Cursor) -> Read
     requires { ⌜ After (now text) from at ⌝ }
-    ensures { λ r. ⌜ ReadsAny (now (text .entry)) (line-comment (now (text .entry)) (lexeme (now (text .entry)) from (at .st .offset)) (at .st)) r ⌝ }
+    ensures { λ r. ⌜ ReadsAny (now (text .entry)) (line-comment (now (text .entry)) from (lexeme (now (text .entry)) from (at .st .offset)) (at .st)) r ⌝ }
 {
     let st = at.st;
     let known = at.known;
+    let begin = from as usize;
     let to = run_end(text, b'\n', b'\n', st.offset as usize);
     let start = pos_of(text, st, known, st.offset);
     let end = pos_of(text, st, start.known, to as u32);
@@ -34,11 +35,16 @@ pub fn line_comment(text: &[u8], from: usize, at: Cursor) -> Read
         kind: 0,
         sp: sp,
         ep: ep,
-        length: span(from, to) as u32,
+        length: span(begin, to) as u32,
         comments: next.comments,
         extra: Extra::Comment(true),
+        from: from,
+        to: next.offset,
     };
-    let payload = Payload::Part { from: from, to: to };
+    let payload = Payload::Part {
+        from: begin,
+        to: to,
+    };
     let column = end.known;
     Read {
         item: item,

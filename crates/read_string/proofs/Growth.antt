@@ -57,7 +57,7 @@ module _ (s f acc : Bytes) where
   Growing = Leads (λ (a : State × Bytes). Begins acc (a .1)) (λ (t : Step). Grows acc (t .payload))
 
   -- what is done with a move
-  does-grow : (st : State) (x : Bytes) (m : Move) → Begins acc x → Growing (does s no-pos st x m)
+  does-grow : (st : State) (x : Bytes) (m : Move) → Begins acc x → Growing (does s 0 no-pos st x m)
   does-grow st x (Copy e) h = begins-on (lexeme s (st .offset) e) h
   does-grow st x (Skip e) h = h
   does-grow st x (Line e) h = begins-on (lexeme s (st .offset) e) h
@@ -67,12 +67,12 @@ module _ (s f acc : Bytes) where
   does-grow st x Open h = wrong refl
 
   -- a turn
-  turn-grows : (a : State × Bytes) → Begins acc (a .1) → Growing (string-turn s f no-pos a)
-  turn-grows a h = subst Growing (sym (turn-does s f no-pos (a .0) (a .1))) (does-grow (a .0) (a .1) (string-move s f (a .0 .offset)) h)
+  turn-grows : (a : State × Bytes) → Begins acc (a .1) → Growing (string-turn s f 0 no-pos a)
+  turn-grows a h = subst Growing (sym (turn-does s f 0 no-pos (a .0) (a .1))) (does-grow (a .0) (a .1) (string-move s f (a .0 .offset)) h)
 
   -- The literal begins with what is read of it.
   pub literal-grows : (i : ℕ) → Grows acc (literal-from s f i acc)
   unfolding string-from
   literal-grows i =
-      loop-keeps (string-turn s f no-pos) (λ (a : State × Bytes). Begins acc (a .1)) (λ (t : Step). Grows acc (t .payload)) _ turn-grows (λ a _. wrong refl)
+      loop-keeps (string-turn s f 0 no-pos) (λ (a : State × Bytes). Begins acc (a .1)) (λ (t : Step). Grows acc (t .payload)) _ turn-grows (λ a _. wrong refl)
       (fuel s) (advance (started 0 0) i, acc) (record { more = []; is = sym (append-nil acc) })

@@ -8,7 +8,6 @@ use Rattle.definition.specs.Text.{lexeme}
 use Rattle.definition.specs.State.{no-pos, started, advance, new-line}
 use Rattle.definition.specs.Item.{Step}
 use Rattle.definition.specs.Strings.{string-turn}
-use Rattle.definition.specs.declared.Pos.{Pos}
 use Rattle.definition.specs.declared.State.{State}
 use Rattle.lemmas.proofs.Loops.{says}
 use Rattle.laws_run.specs.Going.{string-from}
@@ -57,57 +56,57 @@ module _ (s f : Bytes) where
   Equal t u = t .payload ≡ u .payload
 
   -- what is done with a move
-  does-both : (sp sp′ : Pos) (st st′ : State) (acc acc′ : Bytes) (m : Move) → st .offset ≡ st′ .offset → acc ≡ acc′
-      → Both Alike Equal (does s sp st acc m) (does s sp′ st′ acc′ m)
-  does-both sp sp′ st st′ acc acc′ (Copy e) p q = (refl, ap₂ (λ (x : Bytes) (i : ℕ). x ++ lexeme s i e) q p)
-  does-both sp sp′ st st′ acc acc′ (Skip e) p q = (refl, q)
-  does-both sp sp′ st st′ acc acc′ (Line e) p q = (refl, ap₂ (λ (x : Bytes) (i : ℕ). x ++ lexeme s i e) q p)
-  does-both sp sp′ st st′ acc acc′ (Char c e) p q = (refl, ap (λ (x : Bytes). x ++ encode c) q)
-  does-both sp sp′ st st′ acc acc′ Surrogate p q = refl
-  does-both sp sp′ st st′ acc acc′ (Close e) p q = q
-  does-both sp sp′ st st′ acc acc′ Open p q = refl
+  does-both : (st st′ : State) (acc acc′ : Bytes) (m : Move) → st .offset ≡ st′ .offset → acc ≡ acc′
+      → Both Alike Equal (does s 0 no-pos st acc m) (does s 0 no-pos st′ acc′ m)
+  does-both st st′ acc acc′ (Copy e) p q = (refl, ap₂ (λ (x : Bytes) (i : ℕ). x ++ lexeme s i e) q p)
+  does-both st st′ acc acc′ (Skip e) p q = (refl, q)
+  does-both st st′ acc acc′ (Line e) p q = (refl, ap₂ (λ (x : Bytes) (i : ℕ). x ++ lexeme s i e) q p)
+  does-both st st′ acc acc′ (Char c e) p q = (refl, ap (λ (x : Bytes). x ++ encode c) q)
+  does-both st st′ acc acc′ Surrogate p q = refl
+  does-both st st′ acc acc′ (Close e) p q = q
+  does-both st st′ acc acc′ Open p q = refl
 
   -- a turn
-  turn-both : (sp sp′ : Pos) (a b : State × Bytes) → Alike a b → Both Alike Equal (string-turn s f sp a) (string-turn s f sp′ b)
-  turn-both sp sp′ a b h =
-      let u = does-both sp sp′ (a .0) (b .0) (a .1) (b .1) (string-move s f (a .0 .offset)) (h .0) (h .1) in
-      subst (Both Alike Equal (string-turn s f sp a))
-      (ap (λ (i : ℕ). does s sp′ (b .0) (b .1) (string-move s f i)) (h .0) ∙ sym (turn-does s f sp′ (b .0) (b .1)))
-      (subst (λ (t : Turn (State × Bytes) Step). Both Alike Equal t (does s sp′ (b .0) (b .1) (string-move s f (a .0 .offset))))
-      (sym (turn-does s f sp (a .0) (a .1))) u)
+  turn-both : (a b : State × Bytes) → Alike a b → Both Alike Equal (string-turn s f 0 no-pos a) (string-turn s f 0 no-pos b)
+  turn-both a b h =
+      let u = does-both (a .0) (b .0) (a .1) (b .1) (string-move s f (a .0 .offset)) (h .0) (h .1) in
+      subst (Both Alike Equal (string-turn s f 0 no-pos a))
+      (ap (λ (i : ℕ). does s 0 no-pos (b .0) (b .1) (string-move s f i)) (h .0) ∙ sym (turn-does s f 0 no-pos (b .0) (b .1)))
+      (subst (λ (t : Turn (State × Bytes) Step). Both Alike Equal t (does s 0 no-pos (b .0) (b .1) (string-move s f (a .0 .offset))))
+      (sym (turn-does s f 0 no-pos (a .0) (a .1))) u)
 
   -- the payload depends on the offset alone
-  same-payload : (sp sp′ : Pos) (st st′ : State) (acc : Bytes) → st .offset ≡ st′ .offset
-      → string-from s f sp (st, acc) .payload ≡ string-from s f sp′ (st′, acc) .payload
+  same-payload : (st st′ : State) (acc : Bytes) → st .offset ≡ st′ .offset
+      → string-from s f 0 no-pos (st, acc) .payload ≡ string-from s f 0 no-pos (st′, acc) .payload
   unfolding string-from
-  same-payload sp sp′ st st′ acc e =
-      loop-both (string-turn s f sp) (string-turn s f sp′) _ _ Alike Equal (turn-both sp sp′) (λ a b _. refl) (fuel s) (st, acc) (st′, acc) (e, refl)
+  same-payload st st′ acc e =
+      loop-both (string-turn s f 0 no-pos) (string-turn s f 0 no-pos) _ _ Alike Equal turn-both (λ a b _. refl) (fuel s) (st, acc) (st′, acc) (e, refl)
 
   -- ---- move by move
 
   -- before the first byte nothing is held
   pub literal-starts : (i : ℕ) → literal-from s f i [] ≡ literal s f i
-  literal-starts i = sym (ap (λ (t : Step). t .payload) (string-is s f no-pos (advance (started 0 0) i)))
+  literal-starts i = sym (ap (λ (t : Step). t .payload) (string-is s f 0 no-pos (advance (started 0 0) i)))
 
   module _ (i : ℕ) (acc : Bytes) where
     -- the literal by the move at its byte
     by-move : (m : Move) → string-move s f i ≡ m
-        → literal-from s f i acc ≡ says (does s no-pos (advance (started 0 0) i) acc m) (string-from s f no-pos) .payload
+        → literal-from s f i acc ≡ says (does s 0 no-pos (advance (started 0 0) i) acc m) (string-from s f 0 no-pos) .payload
     by-move m e =
         let st = advance (started 0 0) i in
         ap (λ (t : Step). t .payload)
-        (string-unroll s f no-pos (st, acc)
-        ∙ ap (λ (t : Turn (State × Bytes) Step). says t (string-from s f no-pos)) (turn-does s f no-pos st acc ∙ ap (does s no-pos st acc) e))
+        (string-unroll s f 0 no-pos (st, acc)
+        ∙ ap (λ (t : Turn (State × Bytes) Step). says t (string-from s f 0 no-pos)) (turn-does s f 0 no-pos st acc ∙ ap (does s 0 no-pos st acc) e))
 
     -- a move after which it goes on
     pub literal-on : (m : Move) → On m → string-move s f i ≡ m → literal-from s f i acc ≡ literal-from s f (ends-at i m) (acc ++ adds s i m)
     literal-on (Copy e) o q = by-move (Copy e) q
     literal-on (Skip e) o q =
         by-move (Skip e) q
-        ∙ same-payload no-pos no-pos (new-line (advance (started 0 0) e)) (advance (started 0 0) e) acc refl
+        ∙ same-payload (new-line (advance (started 0 0) e)) (advance (started 0 0) e) acc refl
         ∙ ap (literal-from s f e) (sym (append-nil acc))
     literal-on (Line e) o q =
-        by-move (Line e) q ∙ same-payload no-pos no-pos (new-line (advance (started 0 0) e)) (advance (started 0 0) e) (acc ++ lexeme s i e) refl
+        by-move (Line e) q ∙ same-payload (new-line (advance (started 0 0) e)) (advance (started 0 0) e) (acc ++ lexeme s i e) refl
     literal-on (Char c e) o q = by-move (Char c e) q
     literal-on Surrogate o q = absurd o
     literal-on (Close e) o q = absurd o

@@ -56,9 +56,9 @@ on-past Open o g = absurd o
 abbrev Leads-safe : Bytes → Turn (State × Bytes) Step → Type 0
 Leads-safe s = Leads (λ (b : State × Bytes). Stands s (b .0) × (b .0 .mode ≡ 0)) (λ (t : Step). Stands s (t .next))
 
-module _ (s name f : Bytes) (sp : Pos) (st : State) (acc : Bytes) where
+module _ (s name f : Bytes) (quote : ℕ) (sp : Pos) (st : State) (acc : Bytes) where
   -- whether it does doesn't depend on what was read
-  states-safe : (m : Move) → Leads-safe s (does s sp st acc m) → Safe s sp st m
+  states-safe : (m : Move) → Leads-safe s (does s quote sp st acc m) → Safe s quote sp st m
   states-safe (Copy e) h = h
   states-safe (Skip e) h = h
   states-safe (Line e) h = h
@@ -76,13 +76,13 @@ module _ (s name f : Bytes) (sp : Pos) (st : State) (acc : Bytes) where
   record GoesOn (k : State × Bytes → Step) (m : Move) (p : Cursor) : Type 0 where
     on : On m
     offset : p .st .offset ≡ ends-at (st .offset) m
-    same : says (does s sp st acc m) k ≡ k (p .st, acc ++ adds s (st .offset) m)
+    same : says (does s quote sp st acc m) k ≡ k (p .st, acc ++ adds s (st .offset) m)
     stands : Stands s (p .st) × (p .st .mode ≡ 0)
     known : Known-at s (p .st) (p .known)
 
   module _ (k : State × Bytes → Step) (p : Cursor) where
     -- it goes on from b
-    goes-on-from : (b : State) (m : Move) → On m → b .offset ≡ ends-at (st .offset) m → says (does s sp st acc m) k ≡ k (b, acc ++ adds s (st .offset) m)
+    goes-on-from : (b : State) (m : Move) → On m → b .offset ≡ ends-at (st .offset) m → says (does s quote sp st acc m) k ≡ k (b, acc ++ adds s (st .offset) m)
         → Stands s b × (b .mode ≡ 0) → (p .st ≡ b) × Known-at s b (p .known) → GoesOn k m p
     goes-on-from b m o q e l h = record {
       on = o;
@@ -93,7 +93,7 @@ module _ (s name f : Bytes) (sp : Pos) (st : State) (acc : Bytes) where
     }
 
     -- a turn, by what is done
-    turn-again : (m : Move) → Safe s sp st m → Turns s name f (states (does s sp st acc m)) (Again p) → GoesOn k m p
+    turn-again : (m : Move) → Safe s quote sp st m → Turns s name f (states (does s quote sp st acc m)) (Again p) → GoesOn k m p
     turn-again (Copy e) l h = goes-on-from (advance st e) (Copy e) tt refl refl l h
     turn-again (Skip e) l h =
         goes-on-from (new-line (advance st e)) (Skip e) tt refl (ap (λ (x : Bytes). k (new-line (advance st e), x)) (sym (append-nil acc))) l h
@@ -106,64 +106,64 @@ module _ (s name f : Bytes) (sp : Pos) (st : State) (acc : Bytes) where
 -- ---- the loop
 
 -- acc is read of the literal, and what is still to be read gives what the whole gives
-pub record Reading (s f : Bytes) (sp : Pos) (from count : ℕ) (first here : Cursor) : Type 0 where
+pub record Reading (s f : Bytes) (quote : ℕ) (sp : Pos) (from count : ℕ) (first here : Cursor) : Type 0 where
   pub acc : Bytes
   pub standing : Standing s (here .st) (here .known)
   pub between : here .st .mode ≡ 0
-  pub same : string-from s f sp (here .st, acc) ≡ string-lit s f (first .st) sp
+  pub same : string-from s f quote sp (here .st, acc) ≡ string-lit s f (first .st) quote sp
   pub held : Held s f from (here .st .offset) count acc
 
 -- before the first turn
-pub reading-starts : {s f : Bytes} {sp : Pos} {at : Cursor} → Reader s f at → Reading s f sp (at .st .offset) 0 at at
-reading-starts {s} {f} {sp} {at} h = record {
+pub reading-starts : {s f : Bytes} {quote : ℕ} {sp : Pos} {at : Cursor} → Reader s f at → Reading s f quote sp (at .st .offset) 0 at at
+reading-starts {s} {f} {quote} {sp} {at} h = record {
   acc = [];
   standing = h .standing;
   between = h .between;
-  same = sym (string-is s f sp (at .st));
+  same = sym (string-is s f quote sp (at .st));
   held = held-starts s f (at .st .offset) (stands-within (h .standing .stands));
 }
 
 -- no count is larger than the text
-pub reading-small : {s f : Bytes} {sp : Pos} {from count : ℕ} {first here : Cursor} → Reading s f sp from count first here → count ≤ 1048576
+pub reading-small : {s f : Bytes} {quote : ℕ} {sp : Pos} {from count : ℕ} {first here : Cursor} → Reading s f quote sp from count first here → count ≤ 1048576
 reading-small k =
     let h = k .held in
     omega (arith, h .counted, h .short, h .within, k .standing .stands .short)
 
-module _ {s f : Bytes} {sp : Pos} {from count : ℕ} {first here : Cursor} (k : Reading s f sp from count first here)
+module _ {s f : Bytes} {quote : ℕ} {sp : Pos} {from count : ℕ} {first here : Cursor} (k : Reading s f quote sp from count first here)
     {m : Move} (e : m ≡ string-move s f (here .st .offset)) where
   -- the turn is what is done with the move
-  turn-is : string-turn s f sp (here .st, k .acc) ≡ does s sp (here .st) (k .acc) m
-  turn-is = turn-does s f sp (here .st) (k .acc) ∙ ap (does s sp (here .st) (k .acc)) (sym e)
+  turn-is : string-turn s f quote sp (here .st, k .acc) ≡ does s quote sp (here .st) (k .acc) m
+  turn-is = turn-does s f quote sp (here .st) (k .acc) ∙ ap (does s quote sp (here .st) (k .acc)) (sym e)
 
   -- so the turn may be taken
-  pub reading-turns : Turning s count here sp m
+  pub reading-turns : Turning s count here quote sp m
   reading-turns = record {
     standing = k .standing;
     safe =
-        states-safe s [] f sp (here .st) (k .acc) m
-        (subst (Leads-safe s) turn-is (string-turn-stands s f sp (here .st, k .acc) (k .standing .stands) (k .between)));
+        states-safe s [] f quote sp (here .st) (k .acc) m
+        (subst (Leads-safe s) turn-is (string-turn-stands s f quote sp (here .st, k .acc) (k .standing .stands) (k .between)));
     small = omega (arith, reading-small k);
   }
 
   -- what is still to be read, by its first turn
-  unrolled : says (does s sp (here .st) (k .acc) m) (string-from s f sp) ≡ string-lit s f (first .st) sp
+  unrolled : says (does s quote sp (here .st) (k .acc) m) (string-from s f quote sp) ≡ string-lit s f (first .st) quote sp
   unrolled =
-      sym (string-unroll s f sp (here .st, k .acc) ∙ ap (λ (t : Turn (State × Bytes) Step). says t (string-from s f sp)) turn-is) ∙ k .same
+      sym (string-unroll s f quote sp (here .st, k .acc) ∙ ap (λ (t : Turn (State × Bytes) Step). says t (string-from s f quote sp)) turn-is) ∙ k .same
 
   module _ (name : Bytes) where
     -- what a turn has read is the whole
-    pub reading-ends : (r : Read) → Turns s name f (states (does s sp (here .st) (k .acc) m)) (Done r) → Reads s name f (string-lit s f (first .st) sp) r
+    pub reading-ends : (r : Read) → Turns s name f (states (does s quote sp (here .st) (k .acc) m)) (Done r) → Reads s name f (string-lit s f (first .st) quote sp) r
     reading-ends r t =
         subst (λ (x : Step). Reads s name f x r) unrolled
-        (turn-done s name f sp (here .st) (k .acc) (does s sp (here .st) (k .acc) m) (string-from s f sp) r t)
+        (turn-done s name f quote sp (here .st) (k .acc) (does s quote sp (here .st) (k .acc) m) (string-from s f quote sp) r t)
 
     -- a turn that goes on reads something, and stands in the literal again
-    pub reading-goes-on : (p : Cursor) (n : ℕ) → n ≡ added (here .st .offset) m → Turns s name f (states (does s sp (here .st) (k .acc) m)) (Again p)
-        → Reading s f sp from (count + n) first p × (length s - p .st .offset < length s - here .st .offset)
+    pub reading-goes-on : (p : Cursor) (n : ℕ) → n ≡ added (here .st .offset) m → Turns s name f (states (does s quote sp (here .st) (k .acc) m)) (Again p)
+        → Reading s f quote sp from (count + n) first p × (length s - p .st .offset < length s - here .st .offset)
     reading-goes-on p n c t =
         let i = here .st .offset in
         let g : Goes s i m = subst (Goes s i) (sym e) (move-goes s i f) in
-        let a = turn-again s name f sp (here .st) (k .acc) (string-from s f sp) p m (reading-turns .safe) t in
+        let a = turn-again s name f quote sp (here .st) (k .acc) (string-from s f quote sp) p m (reading-turns .safe) t in
         let past = on-past m (a .on) g in
         let h = held-on (k .held) m n (a .on) g (sym e) (c ∙ added-is s i m g) in (
           record {

@@ -52,10 +52,10 @@ module _ {from count : ℕ} where
 -- ---- the closing quote
 
 -- The token that is built there is the definition's.
-pub close-reads : {s name : Bytes} {count e : ℕ} {at : Cursor} {sp : Pos} {p : Payload} {r : Read} (end : Located) (next : State)
+pub close-reads : {s name : Bytes} {count e : ℕ} {at : Cursor} {quote : ℕ} {sp : Pos} {p : Payload} {r : Read} (end : Located) (next : State)
     → Closing s count at e → end ≡ located s (at .st) e → next ≡ advance (at .st) e
-    → ((s f bytes : Bytes) → Describes s name f p bytes → Known-at s next (end .known) → Reads s name f (tok (kind "STRING") bytes sp (end .pos) NoExtra next) r)
-    → (f acc : Bytes) → Describes s name f p acc → Reads s name f (closed s acc sp (at .st) e) r
+    → ((s f bytes : Bytes) → Describes s name f p bytes → Known-at s next (end .known) → Reads s name f (tok (kind "STRING") bytes quote sp (end .pos) NoExtra next) r)
+    → (f acc : Bytes) → Describes s name f p acc → Reads s name f (closed s acc quote sp (at .st) e) r
 close-reads {s} {name} {count} {e} {at} {sp} {p} {r} end next h q a build f acc d =
     let st = at .st in
     let known : Known-at s (advance st e) (located s st e .known) =
@@ -88,6 +88,6 @@ module _ {s : Bytes} {at : Cursor} (h : Standing s (at .st) (at .known)) {e : �
   line-known c = rw c (refl, known-line s (at .st) e)
 
 -- what is made of a move is what the turn is
-pub move-turns : (s name : Bytes) (sp : Pos) (st : State) (m : Move) (r : ReadResult) (k : Move) → m ≡ k → (f acc : Bytes)
-    → Turns s name f (states (does s sp st acc k)) r → Turns s name f (states (does s sp st acc m)) r
-move-turns s name sp st m r k e f acc h = subst (λ (x : Move). Turns s name f (states (does s sp st acc x)) r) (sym e) h
+pub move-turns : (s name : Bytes) (quote : ℕ) (sp : Pos) (st : State) (m : Move) (r : ReadResult) (k : Move) → m ≡ k → (f acc : Bytes)
+    → Turns s name f (states (does s quote sp st acc k)) r → Turns s name f (states (does s quote sp st acc m)) r
+move-turns s name quote sp st m r k e f acc h = subst (λ (x : Move). Turns s name f (states (does s quote sp st acc x)) r) (sym e) h

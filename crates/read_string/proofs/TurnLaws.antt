@@ -1,4 +1,5 @@
 -- A turn does what stands at the state's offset asks for. Rests on nothing but the definition.
+use Prim.Native.Nat.{ℕ}
 use mathlib.Core.Path.{_≡_}
 use lib.Dec.{ltb, leb}
 use lib.ListN.{length}
@@ -14,9 +15,9 @@ use Rattle.read_string.specs.Moves.{surrogate-move, escape-move, last-mo
 use Rattle.read_string.specs.Literal.{does}
 
 -- The turn, case by case.
-pub turn-does : (s f : Bytes) (sp : Pos) (st : State) (acc : Bytes) → string-turn s f sp (st, acc) ≡ does s sp st acc (string-move s f (st .offset))
+pub turn-does : (s f : Bytes) (quote : ℕ) (sp : Pos) (st : State) (acc : Bytes) → string-turn s f quote sp (st, acc) ≡ does s quote sp st acc (string-move s f (st .offset))
 unfolding string-move stop-move escape-move surrogate-move last-move escape-turn
-turn-does s f sp st acc =
+turn-does s f quote sp st acc =
     let i = st .offset in
     by-outcome (ltb i (run-end string-stop s i)) (λ t. rw (string-turn, string-move, t)) λ t.
     by-found (broken-line s i) (λ nl b. rw (string-turn, string-move, t, b)) λ b.

@@ -16,8 +16,8 @@ use Rattle.read_string.specs.declared.moves.Move.{Move}
 use Rattle.read_string.specs.Literal.{does, states}
 
 -- where a move leads is a place to stand
-abbrev pub Safe : Bytes → Pos → State → Move → Type 0
-Safe s sp st m = Leads (λ b. Stands s b × (b .mode ≡ 0)) (λ t. Stands s (t .next)) (states (does s sp st [] m))
+abbrev pub Safe : Bytes → ℕ → Pos → State → Move → Type 0
+Safe s quote sp st m = Leads (λ b. Stands s b × (b .mode ≡ 0)) (λ t. Stands s (t .next)) (states (does s quote sp st [] m))
 
 -- the closing quote ends at e
 pub record Closing (s : Bytes) (count : ℕ) (at : Cursor) (e : ℕ) : Type 0 where
@@ -26,9 +26,9 @@ pub record Closing (s : Bytes) (count : ℕ) (at : Cursor) (e : ℕ) : Type 0 wh
   pub small : count < 4294967296
 
 -- m is done next
-pub record Turning (s : Bytes) (count : ℕ) (at : Cursor) (sp : Pos) (m : Move) : Type 0 where
+pub record Turning (s : Bytes) (count : ℕ) (at : Cursor) (quote : ℕ) (sp : Pos) (m : Move) : Type 0 where
   pub standing : Standing s (at .st) (at .known)
-  pub safe : Safe s sp (at .st) m
+  pub safe : Safe s quote sp (at .st) m
   pub small : count < 4294967296
 
 -- a literal begins, between comments; f is the class file

@@ -48,10 +48,19 @@ fn contents(from: usize, to: usize, count: usize) -> Payload
     }
 }
 
-// The literal whose closing quote ends at e.
-fn close(text: &[u8], name: &[u8], from: usize, count: usize, at: Cursor, sp: Pos, e: usize) -> Read
+// The literal whose closing quote ends at e; its opening one is byte `quote`, whose position is sp.
+fn close(
+    text: &[u8],
+    name: &[u8],
+    from: usize,
+    count: usize,
+    at: Cursor,
+    quote: u32,
+    sp: Pos,
+    e: usize,
+) -> Read
     requires { ⌜ Closing (now text) count at e ⌝ }
-    ensures { λ r. ⌜ ((f acc : Bytes) → Held (now (text .entry)) f from (at .st .offset) count acc → literal (now (text .entry)) f from ≡ acc → Reads (now (text .entry)) (now (name .entry)) f (closed (now (text .entry)) acc sp (at .st) e) r) ⌝ }
+    ensures { λ r. ⌜ ((f acc : Bytes) → Held (now (text .entry)) f from (at .st .offset) count acc → literal (now (text .entry)) f from ≡ acc → Reads (now (text .entry)) (now (name .entry)) f (closed (now (text .entry)) acc quote sp (at .st) e) r) ⌝ }
 {
     let st = at.st;
     let known = at.known;
@@ -63,6 +72,7 @@ fn close(text: &[u8], name: &[u8], from: usize, count: usize, at: Cursor, sp: Po
         name,
         STRING,
         payload,
+        quote,
         sp,
         ep,
         Extra::NoExtra,
@@ -78,11 +88,12 @@ fn turn(
     from: usize,
     count: usize,
     at: Cursor,
+    quote: u32,
     sp: Pos,
     m: Move,
 ) -> ReadResult
-    requires { ⌜ Turning (now text) count at sp m ⌝ }
-    ensures { λ r. ⌜ ((f acc : Bytes) → string-move (now (text .entry)) f (at .st .offset) ≡ m → Held (now (text .entry)) f from (at .st .offset) count acc → Turns (now (text .entry)) (now (name .entry)) f (states (does (now (text .entry)) sp (at .st) acc m)) r) ⌝ }
+    requires { ⌜ Turning (now text) count at quote sp m ⌝ }
+    ensures { λ r. ⌜ ((f acc : Bytes) → string-move (now (text .entry)) f (at .st .offset) ≡ m → Held (now (text .entry)) f from (at .st .offset) count acc → Turns (now (text .entry)) (now (name .entry)) f (states (does (now (text .entry)) quote sp (at .st) acc m)) r) ⌝ }
 {
     let st = at.st;
     let known = at.known;
@@ -98,7 +109,7 @@ fn turn(
             known,
             definition::errors::SURROGATE,
         )),
-        Move::Close(e) => ReadResult::Done(close(text, name, from, count, at, sp, e)),
+        Move::Close(e) => ReadResult::Done(close(text, name, from, count, at, quote, sp, e)),
         Move::Open => ReadResult::Done(error_here(
             text,
             name,
@@ -109,10 +120,10 @@ fn turn(
     }
 }
 
-// The source's `string_lit`, from after the opening quote; sp is where that stands.
-pub fn string_lit(text: &[u8], name: &[u8], classes: &[u8], at: Cursor, sp: Pos) -> Read
+// The source's `string_lit`, from after the opening quote, which is byte `quote`; sp is its position.
+pub fn string_lit(text: &[u8], name: &[u8], classes: &[u8], at: Cursor, quote: u32, sp: Pos) -> Read
     requires { ⌜ Reader (now text) (now classes) at ⌝ }
-    ensures { λ r. ⌜ Reads (now (text .entry)) (now (name .entry)) (now (classes .entry)) (string-lit (now (text .entry)) (now (classes .entry)) (at .st) sp) r ⌝ }
+    ensures { λ r. ⌜ Reads (now (text .entry)) (now (name .entry)) (now (classes .entry)) (string-lit (now (text .entry)) (now (classes .entry)) (at .st) quote sp) r ⌝ }
 {
     let first = at.st;
     let from = first.offset as usize;
@@ -122,7 +133,7 @@ pub fn string_lit(text: &[u8], name: &[u8], classes: &[u8], at: Cursor, sp: Pos)
         let st = here.st;
         let i = st.offset as usize;
         let m = string_move(text, classes, i);
-        match turn(text, name, from, count, here, sp, m) {
+        match turn(text, name, from, count, here, quote, sp, m) {
             ReadResult::Done(r) => {
                 return r;
             }

@@ -42,12 +42,12 @@ module _ {s name : Bytes} {at : Cursor} {i e : ℕ} {p : Payload} (h : Spans s n
   -- the token has both
   pub span-reads : {f bytes : Bytes} {k : ℕ} {extra : Extra} {r : Read} (start end : Located) (next : State)
       → start ≡ located s (at .st) i → end ≡ located s (at .st) e → next ≡ advance (at .st) e
-      → (Known-at s next (end .known) → Reads s name f (tok k bytes (start .pos) (end .pos) extra next) r)
+      → (Known-at s next (end .known) → Reads s name f (tok k bytes (at .st .offset) (start .pos) (end .pos) extra next) r)
       → Reads s name f (spanned s (at .st) i e k bytes extra) r
   span-reads {f} {bytes} {k} {extra} {r} start end next a b c build =
       let st = at .st in
       let known : Known-at s (advance st e) (located s st e .known) =
       known-kept st (advance st e) refl refl (known-asked (h .standing) e (h .next .sound .order)) in
       let built = rw (a, b, c) at build in
-      subst (λ (pos : Pos). Reads s name f (tok k bytes (pos-of s st i) pos extra (advance st e)) r)
+      subst (λ (pos : Pos). Reads s name f (tok k bytes (st .offset) (pos-of s st i) pos extra (advance st e)) r)
       (sym (position-kept s st (advance st e) e refl refl refl)) (built known)

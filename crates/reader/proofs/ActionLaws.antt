@@ -37,7 +37,7 @@ module _ {s name : Bytes} {at : Cursor} {e : ℕ} {t : Token-turn} where
     }
 
   -- a line's comment
-  pub line-rules : t ≡ done (line-comment s [] (at .st)) → Rules s name at e t LineComment
+  pub line-rules : t ≡ done (line-comment s (at .st .offset) [] (at .st)) → Rules s name at e t LineComment
   line-rules q = record { is = λ f. q; fits = tt }
 
   -- what stands for a rule stands for what is the same

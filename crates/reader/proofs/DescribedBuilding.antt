@@ -25,14 +25,23 @@ use Rattle.reader.specs.Standing.{Standing}
 use Rattle.reader.proofs.Standing.{known-asked, known-kept}
 
 -- the item of a token whose payload has n bytes
-abbrev pub item-of : ℕ → Pos → Pos → ℕ → Extra → State → Item
-item-of k sp ep n extra next = record { kind = k; sp = sp; ep = ep; length = n; comments = next .comments; extra = extra }
+abbrev pub item-of : ℕ → ℕ → Pos → Pos → ℕ → Extra → State → Item
+item-of k from sp ep n extra next = record {
+  kind = k;
+  sp = sp;
+  ep = ep;
+  length = n;
+  comments = next .comments;
+  extra = extra;
+  from = from;
+  to = next .offset;
+}
 
-pub token-reads : (s name f bytes : Bytes) (k : ℕ) (p : Payload) (sp ep : Pos) (extra : Extra) (next : State) (known : Cache) (n : ℕ)
+pub token-reads : (s name f bytes : Bytes) (k : ℕ) (p : Payload) (from : ℕ) (sp ep : Pos) (extra : Extra) (next : State) (known : Cache) (n : ℕ)
     → n ≡ length-of name p → Describes s name f p bytes → Known-at s next known
-    → Reads s name f (tok k bytes sp ep extra next) (record { item = item-of k sp ep n extra next; payload = p; next = next; known = known })
-token-reads s name f bytes k p sp ep extra next known n e d q = record {
-  item = ap (λ (m : ℕ). item-of k sp ep m extra next) (e ∙ d .long);
+    → Reads s name f (tok k bytes from sp ep extra next) (record { item = item-of k from sp ep n extra next; payload = p; next = next; known = known })
+token-reads s name f bytes k p from sp ep extra next known n e d q = record {
+  item = ap (λ (m : ℕ). item-of k from sp ep m extra next) (e ∙ d .long);
   payload = d;
   next = refl;
   known = q;
@@ -41,7 +50,7 @@ token-reads s name f bytes k p sp ep extra next known n e d q = record {
 -- an error's token stands where the state does
 pub error-reads : {s name f bytes : Bytes} {st : State} {known : Cache} {number : ℕ} {from to : Pos} {r : Read} (here : Located) (next : State)
     → Standing s st known → here ≡ located s st (st .offset) → next ≡ ended st
-    → (Known-at s next (here .known) → Reads s name f (tok (kind "ERROR") bytes (here .pos) (here .pos) (LexError number from to) next) r)
+    → (Known-at s next (here .known) → Reads s name f (tok (kind "ERROR") bytes (st .offset) (here .pos) (here .pos) (LexError number from to) next) r)
     → Reads s name f (lex-error s st number bytes from to) r
 error-reads {s} {name} {f} {bytes} {st} {known} {number} {from} {to} {r} here next h e q build =
     let known : Known-at s (ended st) (located s st (st .offset) .known) =

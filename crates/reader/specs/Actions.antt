@@ -24,9 +24,9 @@ use Rattle.reader.specs.declared.Payload.{Payload}
 use Rattle.reader.specs.declared.actions.Action.{Action}
 use Rattle.reader.specs.declared.actions.Action.the-variants.{Token, Error, LineComment}
 
--- a token from i up to e
+-- a token that is read from st up to e, and whose position is that of i
 abbrev pub spanned : Bytes → State → ℕ → ℕ → ℕ → Bytes → Extra → Step
-spanned s st i e k text extra = let next = advance st e in tok k text (pos-of s st i) (cur-pos s next) extra next
+spanned s st i e k text extra = let next = advance st e in tok k text (st .offset) (pos-of s st i) (cur-pos s next) extra next
 
 -- a choice that ends at e was made where the reader stands, between comments
 pub record Chose (s : Bytes) (at : Cursor) (e : ℕ) : Type 0 where
@@ -34,7 +34,7 @@ pub record Chose (s : Bytes) (at : Cursor) (e : ℕ) : Type 0 where
   pub between : at .st .mode ≡ 0
   pub onward : Onward s (at .st .offset) e
 
--- what a token from i up to e asks for
+-- what a token up to e asks for, whose position is that of i
 pub record Spans (s name : Bytes) (at : Cursor) (i e : ℕ) (p : Payload) : Type 0 where
   pub standing : Standing s (at .st) (at .known)
   pub from : at .st .bol ≤ i
@@ -50,7 +50,7 @@ Described s name p = (f : Bytes) → Describes s name f p (bytes-of s name f p)
 abbrev pub action-step : Bytes → Bytes → Bytes → State → ℕ → Action → Step
 action-step s name f st e (Token k i to p) = spanned s st i to k (bytes-of s name f p) NoExtra
 action-step s name f st e (Error n p) = lex-error s st n (bytes-of s name f p) (cur-pos s st) (pos-of s st e)
-action-step s name f st e LineComment = line-comment s [] st
+action-step s name f st e LineComment = line-comment s (st .offset) [] st
 
 -- what carrying it out asks for, besides that the choice was made
 abbrev pub Fits : Bytes → Bytes → Cursor → Action → Type 0

@@ -27,7 +27,7 @@ use Rattle.reader.specs.declared.Read.{Read}
 
 -- what the definition's `string-lit` reads from byte i on: it is the same from any state there
 abbrev pub literal : Bytes → Bytes → ℕ → Bytes
-literal s f i = string-lit s f (advance (started 0 0) i) no-pos .payload
+literal s f i = string-lit s f (advance (started 0 0) i) 0 no-pos .payload
 
 -- each line without its first `width` bytes, as `maybe-trim-lines` cuts them
 abbrev pub trimmed : ℕ → Bytes → Bytes

@@ -10,10 +10,10 @@
 use crate::Payload;
 
 pub enum Action {
-    // A token from byte `from` up to byte `end`.
+    // A token whose position is that of byte `start` and that ends at byte `end`. It is read from where the choice was made.
     Token {
         kind: u32,
-        from: usize,
+        start: usize,
         end: usize,
         payload: Payload,
     },

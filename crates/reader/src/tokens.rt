@@ -17,11 +17,12 @@ ghost use Rattle.definition.specs.Item.{tok, lex-error};
 ghost use Rattle.reader.specs.Described.{Describes, Known-at, Sized, Reads};
 ghost use Rattle.reader.specs.Standing.{Standing};
 
-// The source's `tok`: a token with the state after it, and a column that is known there.
+// The source's `tok`: a token that is read from byte `from` on, with the state after it, and a column that is known there.
 pub fn token(
     name: &[u8],
     kind: u32,
     payload: Payload,
+    from: u32,
     sp: Pos,
     ep: Pos,
     extra: Extra,
@@ -29,7 +30,7 @@ pub fn token(
     known: Cache,
 ) -> Read
     requires { ⌜ Sized (now name) payload ⌝ }
-    ensures { λ r. ⌜ ((s f bytes : Bytes) → Describes s (now (name .entry)) f payload bytes → Known-at s next known → Reads s (now (name .entry)) f (tok kind bytes sp ep extra next) r) ⌝ }
+    ensures { λ r. ⌜ ((s f bytes : Bytes) → Describes s (now (name .entry)) f payload bytes → Known-at s next known → Reads s (now (name .entry)) f (tok kind bytes from sp ep extra next) r) ⌝ }
 {
     let length = length_of(name, payload) as u32;
     let item = Item {
@@ -39,6 +40,8 @@ pub fn token(
         length: length,
         comments: next.comments,
         extra: extra,
+        from: from,
+        to: next.offset,
     };
     Read {
         item: item,
@@ -72,6 +75,7 @@ pub fn lex_error(
         name,
         ERROR,
         payload,
+        st.offset,
         here.pos,
         here.pos,
         extra,

@@ -1,5 +1,5 @@
--- A record's sixteen numbers in the order of the code: word 0 and words 9 to 14 as a struct, and word 15, which is 0. And the item
--- that is a token without more.
+-- A record's eighteen numbers in the order of the code: word 0 and words 9 to 14 as a struct, word 15, which is 0, and the bytes that the
+-- item was read from. And the item that is a token without more.
 use Prim.Native.Nat.{ℕ}
 use mathlib.Core.List.{List, [], _∷_}
 use Rattle.definition.specs.Item.{mark}
@@ -17,8 +17,8 @@ extra-numbers (LexError n from to) = record { sort = 1; tag = 3; first = n; line
 extra-numbers (Comment closed) = record { sort = 2; tag = mark closed; first = 0; line = 0; col = 0; «to_line» = 0; «to_col» = 0 }
 
 -- the numbers of a record
-abbrev pub numbers : ℕ → Pos → Pos → ℕ → ℕ → ℕ → ExtraNumbers → List ℕ
-numbers kind sp ep used size comments n =
+abbrev pub numbers : ℕ → Pos → Pos → ℕ → ℕ → ℕ → ExtraNumbers → ℕ → ℕ → List ℕ
+numbers kind sp ep used size comments n from to =
     n .sort
     ∷ kind
     ∷ sp .line
@@ -35,8 +35,19 @@ numbers kind sp ep used size comments n =
     ∷ n .«to_line»
     ∷ n .«to_col»
     ∷ 0
+    ∷ from
+    ∷ to
     ∷ []
 
 -- a token that holds nothing besides its kind, its range and its payload, which has `size` bytes
-abbrev pub plain-item : ℕ → Pos → Pos → ℕ → ℕ → Item
-plain-item kind sp ep size comments = record { kind = kind; sp = sp; ep = ep; length = size; comments = comments; extra = NoExtra }
+abbrev pub plain-item : ℕ → Pos → Pos → ℕ → ℕ → ℕ → ℕ → Item
+plain-item kind sp ep size comments from to = record {
+  kind = kind;
+  sp = sp;
+  ep = ep;
+  length = size;
+  comments = comments;
+  extra = NoExtra;
+  from = from;
+  to = to;
+}

@@ -1,4 +1,4 @@
-// An item as the sixteen numbers of its record. Proved: exactly the definition's `words` are written to the front of the
+// An item as the eighteen numbers of its record. Proved: exactly the definition's `words` are written to the front of the
 // lent buffer, and the rest of it keeps what it held. Assumed: nothing but that the buffer has room.
 use definition::Extra;
 use definition::Item;
@@ -88,7 +88,7 @@ fn extra_numbers(extra: Extra) -> ExtraNumbers
     }
 }
 
-// Writes the sixteen numbers of a record.
+// Writes the eighteen numbers of a record.
 fn write_words(
     kind: u32,
     sp: Pos,
@@ -96,13 +96,15 @@ fn write_words(
     used: u32,
     size: u32,
     comments: u32,
-    last: ExtraNumbers,
+    extra: ExtraNumbers,
+    from: u32,
+    to: u32,
     out: &mut [u32],
 )
     requires { ⌜ record-size ≤ length (now out) ⌝ }
-    ensures { λ r. ⌜ now (out .exit) ≡ over (numbers kind sp ep used size comments last) (now (out .entry)) ⌝ }
+    ensures { λ r. ⌜ now (out .exit) ≡ over (numbers kind sp ep used size comments extra from to) (now (out .entry)) ⌝ }
 {
-    out[0] = last.sort;
+    out[0] = extra.sort;
     out[1] = kind;
     out[2] = sp.line;
     out[3] = sp.col;
@@ -111,13 +113,15 @@ fn write_words(
     out[6] = used;
     out[7] = size;
     out[8] = comments;
-    out[9] = last.tag;
-    out[10] = last.first;
-    out[11] = last.line;
-    out[12] = last.col;
-    out[13] = last.to_line;
-    out[14] = last.to_col;
+    out[9] = extra.tag;
+    out[10] = extra.first;
+    out[11] = extra.line;
+    out[12] = extra.col;
+    out[13] = extra.to_line;
+    out[14] = extra.to_col;
     out[15] = 0;
+    out[16] = from;
+    out[17] = to;
 }
 
 // Writes the record of an item whose payload begins at byte `used` of the payload buffer.
@@ -128,7 +132,7 @@ pub fn write_record(item: Item, used: u32, out: &mut [u32])
     let extra = item.extra;
     let sp = item.sp;
     let ep = item.ep;
-    let last = extra_numbers(extra);
+    let numbers = extra_numbers(extra);
     write_words(
         item.kind,
         sp,
@@ -136,7 +140,9 @@ pub fn write_record(item: Item, used: u32, out: &mut [u32])
         used,
         item.length,
         item.comments,
-        last,
+        numbers,
+        item.from,
+        item.to,
         out,
     );
 }
@@ -149,13 +155,15 @@ pub fn write_token(
     ep: Pos,
     size: u32,
     comments: u32,
+    from: u32,
+    to: u32,
     used: u32,
     out: &mut [u32],
 )
     requires { ⌜ record-size ≤ length (now out) ⌝ }
-    ensures { λ r. ⌜ now (out .exit) ≡ over (words (plain-item kind sp ep size comments) used) (now (out .entry)) ⌝ }
+    ensures { λ r. ⌜ now (out .exit) ≡ over (words (plain-item kind sp ep size comments from to) used) (now (out .entry)) ⌝ }
 {
-    let last = ExtraNumbers {
+    let nothing = ExtraNumbers {
         sort: 1,
         tag: 0,
         first: 0,
@@ -164,5 +172,5 @@ pub fn write_token(
         to_line: 0,
         to_col: 0,
     };
-    write_words(kind, sp, ep, used, size, comments, last, out);
+    write_words(kind, sp, ep, used, size, comments, nothing, from, to, out);
 }

@@ -44,7 +44,7 @@ pub fn number(text: &[u8], at: Cursor, e: usize, kind: u32) -> Action
     };
     Action::Token {
         kind: kind,
-        from: i,
+        start: i,
         end: e,
         payload: payload,
     }
@@ -68,7 +68,7 @@ pub fn uint8(text: &[u8], at: Cursor, e: usize) -> Action
     }
     Action::Token {
         kind: UINT8,
-        from: i,
+        start: i,
         end: e,
         payload: Payload::Part { from: from, to: to },
     }

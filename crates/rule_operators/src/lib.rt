@@ -31,14 +31,14 @@ pub fn kw_op(text: &[u8], at: Cursor, e: usize, word: usize) -> Action
     if from < to {
         return Action::Token {
             kind: kw_op_kind(word),
-            from: i,
+            start: i,
             end: to,
             payload: rest,
         };
     }
     Action::Token {
         kind: kw_op_plain_kind(word),
-        from: i,
+        start: i,
         end: to,
         payload: rest,
     }
@@ -54,7 +54,7 @@ pub fn gt(text: &[u8], at: Cursor, e: usize) -> Action
     let to = no_comment(text, j, e);
     Action::Token {
         kind: OPINFIX0C,
-        from: j,
+        start: j,
         end: to,
         payload: Payload::Greater { from: j, to: to },
     }
@@ -73,7 +73,7 @@ pub fn op(text: &[u8], at: Cursor, e: usize, kind: u32) -> Action
     }
     Action::Token {
         kind: kind,
-        from: i,
+        start: i,
         end: left,
         payload: Payload::Part { from: i, to: left },
     }

@@ -24,7 +24,7 @@ use Rattle.rule_readers.specs.Does.{Does}
 -- a character has no payload
 pub char-does : {s name : Bytes} {at : Cursor} {e : ℕ} {start end : Located} {next : State} {c : ℕ} {r : Read} → Chose s at e
     → start ≡ located s (at .st) (at .st .offset) → end ≡ located s (at .st) e → next ≡ advance (at .st) e → c ≡ unescape s (at .st .offset + 1)
-    → ((t f bytes : Bytes) → Describes t name f (Part 0 0) bytes → Known-at t next (end .known) → Reads t name f (tok (kind "CHAR") bytes (start .pos) (end .pos) (CharLit c) next) r)
+    → ((t f bytes : Bytes) → Describes t name f (Part 0 0) bytes → Known-at t next (end .known) → Reads t name f (tok (kind "CHAR") bytes (at .st .offset) (start .pos) (end .pos) (CharLit c) next) r)
     → Does s name (char-lit s (at .st) e) r
 char-does {s} {name} {at} {e} {start} {end} {next} h a b d q build f =
     rw (← q) (span-reads (spans h nothing-sized) start end next a b d (build s f [] (nothing-describes s name f)))

@@ -66,16 +66,17 @@ module _ {s : Bytes} {at : Cursor} {e : ℕ} (h : Chose s at e) where
     pub after-slashes : After s (at .st .offset) place
     after-slashes = rw q (record { standing = stands-after; order = omega (arith, h .onward .past) })
 
-    pub slashes-read : {r : Read} → ReadsAny s (source.line-comment s (lexeme s (at .st .offset) (place .st .offset)) (place .st)) r
-        → ReadsAny s (source.line-comment s (lexeme s (at .st .offset) e) (advance (at .st) e)) r
+    pub slashes-read : {r : Read} → ReadsAny s (source.line-comment s (at .st .offset) (lexeme s (at .st .offset) (place .st .offset)) (place .st)) r
+        → ReadsAny s (source.line-comment s (at .st .offset) (lexeme s (at .st .offset) e) (advance (at .st) e)) r
     slashes-read {r} d name f =
-        subst (λ (b : Cursor). Reads s name f (source.line-comment s (lexeme s (at .st .offset) (b .st .offset)) (b .st)) r) q (d name f)
+        subst (λ (b : Cursor). Reads s name f (source.line-comment s (at .st .offset) (lexeme s (at .st .offset) (b .st .offset)) (b .st)) r) q (d name f)
 
     pub before-literal : {f : Bytes} → class-check f ≡ 0 → Reader s f place
     before-literal c = rw q (record { accepted = c; standing = stands-after; between = h .between })
 
     pub literal-reads : {name f : Bytes} {here : Located} {r : Read} → here ≡ located s (at .st) (at .st .offset)
-        → Reads s name f (string-lit s f (place .st) (here .pos)) r → Reads s name f (string-lit s f (advance (at .st) e) (cur-pos s (at .st))) r
+        → Reads s name f (string-lit s f (place .st) (at .st .offset) (here .pos)) r
+        → Reads s name f (string-lit s f (advance (at .st) e) (at .st .offset) (cur-pos s (at .st))) r
     literal-reads p d = rw (q, p) at d
 
     -- the blob-header's name stands before
@@ -94,5 +95,6 @@ module _ {s : Bytes} {at : Cursor} {e : ℕ} (h : Chose s at e) where
 
   -- a blob-header has both of the choice's positions
   pub header-names : {start end : Located} (n : ℕ) → start ≡ located s (at .st) (at .st .offset) → end ≡ located s (at .st) e
-      → Names s (blob-header s (at .st) e n) e (record { from = at .st .offset + n; to = e; pos = end .pos; snap = start .pos })
+      → Names s (blob-header s (at .st) e n) e
+      (record { from = at .st .offset; name = at .st .offset + n; to = e; pos = end .pos; snap = start .pos })
   header-names n p q = record { is = rw (p, q) refl; ends = refl }

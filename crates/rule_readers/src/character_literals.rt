@@ -31,6 +31,7 @@ pub fn char_lit(text: &[u8], name: &[u8], at: Cursor, e: usize) -> Read
         name,
         CHAR,
         nothing,
+        st.offset,
         start.pos,
         end.pos,
         Extra::CharLit(c),

@@ -44,27 +44,27 @@ pub fn comment_start(text: &[u8], at: Cursor, e: usize) -> Read
         st: st.advance(e as u32).open_comment(here.pos),
         known: column,
     };
-    comment(text, st.offset as usize, inside)
+    comment(text, st.offset, inside)
 }
 
 // A line's comment after its slashes.
 pub fn slashes(text: &[u8], at: Cursor, e: usize) -> Read
     requires { ⌜ Chose (now text) at e ⌝ }
-    ensures { λ r. ⌜ ReadsAny (now (text .entry)) (source.line-comment (now (text .entry)) (lexeme (now (text .entry)) (at .st .offset) e) (advance (at .st) e)) r ⌝ }
+    ensures { λ r. ⌜ ReadsAny (now (text .entry)) (source.line-comment (now (text .entry)) (at .st .offset) (lexeme (now (text .entry)) (at .st .offset) e) (advance (at .st) e)) r ⌝ }
 {
     let st = at.st;
-    line_comment(text, st.offset as usize, moved(at, e))
+    line_comment(text, st.offset, moved(at, e))
 }
 
 // A string literal after its quote.
 pub fn literal(text: &[u8], name: &[u8], classes: &[u8], at: Cursor, e: usize) -> Read
     requires { ⌜ Chose (now text) at e × (class-check (now classes) ≡ 0) ⌝ }
-    ensures { λ r. ⌜ Reads (now (text .entry)) (now (name .entry)) (now (classes .entry)) (string-lit (now (text .entry)) (now (classes .entry)) (advance (at .st) e) (cur-pos (now (text .entry)) (at .st))) r ⌝ }
+    ensures { λ r. ⌜ Reads (now (text .entry)) (now (name .entry)) (now (classes .entry)) (string-lit (now (text .entry)) (now (classes .entry)) (advance (at .st) e) (at .st .offset) (cur-pos (now (text .entry)) (at .st))) r ⌝ }
 {
     let st = at.st;
     let known = at.known;
     let here = pos_of(text, st, known, st.offset);
-    string_lit(text, name, classes, moved(at, e), here.pos)
+    string_lit(text, name, classes, moved(at, e), st.offset, here.pos)
 }
 
 // The blob-header of a blob whose name begins after n bytes.
@@ -79,7 +79,8 @@ fn header_at(text: &[u8], at: Cursor, e: usize, n: usize) -> Header
     let pos = end.pos;
     let snap = start.pos;
     Header {
-        from: st.offset as usize + n,
+        from: st.offset,
+        name: st.offset as usize + n,
         to: e,
         pos: pos,
         snap: snap,

@@ -125,8 +125,8 @@ reader-does s f TripleBacktick st e = done (blob s (blob-header s st e 3) (advan
 reader-does s f Lang st e = done (use-lang s (blob-header s st e 6) (advance st e))
 reader-does s f CharLit st e = char-lit s st e
 reader-does s f CommentStart st e = comment-start s st e
-reader-does s f LineComment st e = done (line-comment s (lexeme s (st .offset) e) (advance st e))
-reader-does s f StringLit st e = done (string-lit s f (advance st e) (cur-pos s st))
+reader-does s f LineComment st e = done (line-comment s (st .offset) (lexeme s (st .offset) e) (advance st e))
+reader-does s f StringLit st e = done (string-lit s f (advance st e) (st .offset) (cur-pos s st))
 reader-does s f Any st e = any s st
 
 -- what a rule does

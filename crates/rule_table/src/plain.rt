@@ -86,7 +86,7 @@ pub fn plain(at: Cursor, choice: Choice) -> Action
     let payload = plain_payload(at, choice);
     Action::Token {
         kind: kind,
-        from: st.offset as usize,
+        start: st.offset as usize,
         end: choice.end,
         payload: payload,
     }

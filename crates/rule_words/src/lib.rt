@@ -32,13 +32,13 @@ fn worded(at: Cursor, e: usize, word: Word, kind: u32) -> Action
     match word {
         Word::At(k) => Action::Token {
             kind: kind_at(k),
-            from: i,
+            start: i,
             end: e,
             payload: Payload::Text(k),
         },
         Word::Nowhere => Action::Token {
             kind: kind,
-            from: i,
+            start: i,
             end: e,
             payload: Payload::Part { from: i, to: e },
         },

@@ -34,5 +34,5 @@ module _ {s name : Bytes} {at : Cursor} {e : ℕ} {r : Read} (h : Chose s at e) 
       let fits = rw q at asked in
       rw q (build f (bytes-of s name f p) (fits .1 f))
 
-  pub line-finished : x ≡ LineComment → ReadsAny s (line-comment s (lexeme s (at .st .offset) (at .st .offset)) (at .st)) r → Carried s name at e x r
+  pub line-finished : x ≡ LineComment → ReadsAny s (line-comment s (at .st .offset) (lexeme s (at .st .offset) (at .st .offset)) (at .st)) r → Carried s name at e x r
   line-finished q c f = rw (q, ← slice-empty (at .st .offset) s) (c name f)

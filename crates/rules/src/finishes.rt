@@ -22,7 +22,7 @@ ghost use Rattle.definition.specs.declared.Extra.the-variants.{NoExtra};
 ghost use Rattle.reader.specs.Described.{Describes, Sized, Reads};
 ghost use Rattle.reader.specs.Actions.{spanned, Chose, Spans, action-step, Fits};
 
-// A token from byte i up to byte e, with the state after it.
+// A token up to byte e whose position is that of byte i, with the state after it.
 fn finish_from(
     text: &[u8],
     name: &[u8],
@@ -44,6 +44,7 @@ fn finish_from(
         name,
         kind,
         payload,
+        st.offset,
         start.pos,
         end.pos,
         Extra::NoExtra,
@@ -82,11 +83,11 @@ pub fn finish(text: &[u8], name: &[u8], at: Cursor, e: usize, action: Action) ->
     match action {
         Action::Token {
             kind,
-            from,
+            start,
             end,
             payload,
-        } => finish_from(text, name, at, from, end, kind, payload),
+        } => finish_from(text, name, at, start, end, kind, payload),
         Action::Error { number, payload } => error_over(text, name, at, e, number, payload),
-        Action::LineComment => line_comment(text, st.offset as usize, at),
+        Action::LineComment => line_comment(text, st.offset, at),
     }
 }

@@ -37,7 +37,7 @@ module _ (s name f : Bytes) (named : length name ≤ 4096) where
       → WithinBounds s (written a (step s name f (a .state))) × (left s (step s name f (a .state) .next) < left s (a .state))
   written-keeps a k n room fits =
       let t = step s name f (a .state) in
-      let w : length (words (t .item) (a .used)) ≡ 16 = words-size (t .item) (a .used) in
+      let w : length (words (t .item) (a .used)) ≡ record-size = words-size (t .item) (a .used) in
       let l = step-left s name f (a .state) (k .stands .sound .opened) n in
       let rs : length (put (a .records) (record-size * a .count) (words (t .item) (a .used))) ≡ length (a .records) =
       length-put (a .records) (record-size * a .count) (words (t .item) (a .used)) (omega (arith, k .begun)) in

@@ -35,7 +35,7 @@ use Rattle.step.specs.Items.{eof, ReadsEach, Lets}
 
 pub eof-reads : {s name : Bytes} {at : Cursor} {here : Located} {next : State} {r : Read}
     → Standing s (at .st) (at .known) → here ≡ located s (at .st) (at .st .offset) → next ≡ ended (at .st)
-    → ((f bytes : Bytes) → Describes s name f (Part 0 0) bytes → Known-at s next (here .known) → Reads s name f (tok (kind "EOF") bytes (here .pos) (here .pos) NoExtra next) r)
+    → ((f bytes : Bytes) → Describes s name f (Part 0 0) bytes → Known-at s next (here .known) → Reads s name f (tok (kind "EOF") bytes (at .st .offset) (here .pos) (here .pos) NoExtra next) r)
     → ReadsEach s name (eof s (at .st)) r
 eof-reads {s} {name} {at} {here} {next} {r} h p q build f =
     let known : Known-at s (ended (at .st)) (located s (at .st) (at .st .offset) .known) =

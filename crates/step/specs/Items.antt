@@ -16,7 +16,7 @@ use Rattle.reader.specs.declared.Read.{Read}
 
 -- the token at the text's end
 abbrev pub eof : Bytes → State → Step
-eof s st = tok (kind "EOF") [] (cur-pos s st) (cur-pos s st) NoExtra (ended st)
+eof s st = tok (kind "EOF") [] (st .offset) (cur-pos s st) (cur-pos s st) NoExtra (ended st)
 
 -- r is what the step t gives, whatever the class file is
 abbrev pub ReadsEach : Bytes → Bytes → Step → Read → Type 0

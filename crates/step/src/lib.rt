@@ -37,6 +37,7 @@ fn end_of_text(text: &[u8], name: &[u8], at: Cursor) -> Read
         name,
         EOF,
         nothing,
+        st.offset,
         here.pos,
         here.pos,
         Extra::NoExtra,
@@ -73,6 +74,6 @@ pub fn read(text: &[u8], name: &[u8], classes: &[u8], at: Cursor, ahead: NextIte
     match ahead {
         NextItem::ByReader { choice, rule } => read_choice(text, name, classes, at, choice, rule),
         NextItem::ByAction { end, action } => finish(text, name, at, end, action),
-        NextItem::InComment => comment(text, st.offset as usize, at),
+        NextItem::InComment => comment(text, st.offset, at),
     }
 }

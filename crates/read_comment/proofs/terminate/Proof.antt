@@ -15,8 +15,8 @@ close-comment-requires c κs =
     let h = small (c .before .before .before .before .before .before .before .pre .standing .stands) in
     omega (arith, h .counts)
 
-cast-t18 : tie.Need-cast-t18
-cast-t18 c =
+cast-t19 : tie.Need-cast-t19
+cast-t19 c =
     let d = c .before .before .before .before in
     let e = d .before .before .before .before .before .before in
     omega (arith, piece-short (e .args .from) (e .pre) (d .before .trim-width .result) (d .trimmed-length .ensures))
@@ -32,4 +32,4 @@ pub terminate-spec : {M : Type 1} → statement M
 terminate-spec =
     tie.close
     (tie.spec
-    (λ c. search needs) (λ c κs. search needs) (λ c κs. search needs) pos-of-requires close-comment-requires cast-t18 returns)
+    (λ c. search needs) (λ c κs. search needs) (λ c κs. search needs) pos-of-requires close-comment-requires cast-t19 returns)

@@ -9,10 +9,10 @@ use Rattle.read_string.proofs.string_lit.Statement.{statement}
 use Rattle.read_string.proofs.string_lit.Tie as tie
 
 abbrev Inv-loop : tie.InvT-loop
-Inv-loop text name classes sp from here₀ count₀ here count = Reading text classes sp from count here₀ here
+Inv-loop text name classes quote sp from here₀ count₀ here count = Reading text classes quote sp from count here₀ here
 
 abbrev μ-loop : tie.MeasureT-loop
-μ-loop text name classes sp from here₀ count₀ here count = length text - here .st .offset
+μ-loop text name classes quote sp from here₀ count₀ here count = length text - here .st .offset
 
 loop-holds : tie.Need-loop-holds Inv-loop μ-loop
 loop-holds c = reading-starts (c .before .before .before .before .before .pre)

@@ -34,33 +34,33 @@ close-requires c κs =
 returns : tie.Need-returns
 returns c =
     let g = c .before .before .before .before .before .before .before .before in
-    λ f acc q h. move-turns _ _ _ _ _ _ _ (c .before .before .m .given .1) f acc (on-known (g .pre .standing) (c .moved .ensures))
+    λ f acc q h. move-turns _ _ _ _ _ _ _ _ (c .before .before .m .given .1) f acc (on-known (g .pre .standing) (c .moved .ensures))
 
 returns-2 : tie.Need-returns-2
 returns-2 c =
     let g = c .before .before .before .before .before .before .before .before in
-    λ f acc q h. move-turns _ _ _ _ _ _ _ (c .before .before .m2 .given .1) f acc (line-known (g .pre .standing) (c .next-line .ensures))
+    λ f acc q h. move-turns _ _ _ _ _ _ _ _ (c .before .before .m2 .given .1) f acc (line-known (g .pre .standing) (c .next-line .ensures))
 
 returns-3 : tie.Need-returns-3
 returns-3 c =
     let g = c .before .before .before .before .before .before .before .before in
-    λ f acc q h. move-turns _ _ _ _ _ _ _ (c .before .before .m3 .given .1) f acc (line-known (g .pre .standing) (c .next-line2 .ensures))
+    λ f acc q h. move-turns _ _ _ _ _ _ _ _ (c .before .before .m3 .given .1) f acc (line-known (g .pre .standing) (c .next-line2 .ensures))
 
 returns-4 : tie.Need-returns-4
 returns-4 c =
     let g = c .before .before .before .before .before .before .before .before in
-    λ f acc q h. move-turns _ _ _ _ _ _ _ (c .before .before .m4 .given .1) f acc (on-known (g .pre .standing) (c .moved2 .ensures))
+    λ f acc q h. move-turns _ _ _ _ _ _ _ _ (c .before .before .m4 .given .1) f acc (on-known (g .pre .standing) (c .moved2 .ensures))
 
 returns-5 : tie.Need-returns-5
-returns-5 c = λ f acc q h. move-turns _ _ _ _ _ _ _ (c .before .enum-told .given .1) f acc (c .error-here .ensures f)
+returns-5 c = λ f acc q h. move-turns _ _ _ _ _ _ _ _ (c .before .enum-told .given .1) f acc (c .error-here .ensures f)
 
 returns-6 : tie.Need-returns-6
 returns-6 c =
     let e = c .before .before .m5 .given .1 in
-    λ f acc q h. move-turns _ _ _ _ _ _ _ e f acc (c .close .ensures f acc h (sym (h .spells) ∙ literal-closed _ _ _ _ _ (q ∙ e)))
+    λ f acc q h. move-turns _ _ _ _ _ _ _ _ e f acc (c .close .ensures f acc h (sym (h .spells) ∙ literal-closed _ _ _ _ _ (q ∙ e)))
 
 returns-7 : tie.Need-returns-7
-returns-7 c = λ f acc q h. move-turns _ _ _ _ _ _ _ (c .before .enum-told2 .given .1) f acc (c .error-here2 .ensures f)
+returns-7 c = λ f acc q h. move-turns _ _ _ _ _ _ _ _ (c .before .enum-told2 .given .1) f acc (c .error-here2 .ensures f)
 
 pub turn-spec : {M : Type 1} → statement M
 turn-spec =

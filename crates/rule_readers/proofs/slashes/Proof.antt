@@ -5,10 +5,10 @@ use Rattle.rule_readers.proofs.slashes.Statement.{statement}
 use Rattle.rule_readers.proofs.slashes.Tie as tie
 
 line-comment-requires : tie.Need-line-comment-requires
-line-comment-requires c κs = after-slashes (c .before .before .before .before .pre) (c .moved .ensures)
+line-comment-requires c κs = after-slashes (c .before .before .before .pre) (c .moved .ensures)
 
 returns : tie.Need-returns
-returns c = slashes-read (c .before .before .before .before .before .pre) (c .before .moved .ensures) (c .line-comment .ensures)
+returns c = slashes-read (c .before .before .before .before .pre) (c .before .moved .ensures) (c .line-comment .ensures)
 
 pub slashes-spec : {M : Type 1} → statement M
-slashes-spec = tie.close (tie.spec (λ c. search needs) (λ c κs. search needs) line-comment-requires returns)
+slashes-spec = tie.close (tie.spec (λ c κs. search needs) line-comment-requires returns)

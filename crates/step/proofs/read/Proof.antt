@@ -20,12 +20,9 @@ finish-requires c κs = rw (c .before .ahead2 .given .1) at (c .before .before .
 enum-told : tie.Need-enum-told
 enum-told c = search needs
 
-cast-comment : tie.Need-cast-comment
-cast-comment c = search needs
-
 comment-requires : tie.Need-comment-requires
 comment-requires c κs =
-    let h = rw (c .before .enum-told .given .1) at (c .before .before .before .before .before .before .before .pre .0) in
+    let h = rw (c .enum-told .given .1) at (c .before .before .before .before .before .before .pre .0) in
     record { standing = h .0; mode = h .1 }
 
 returns : tie.Need-returns
@@ -35,7 +32,7 @@ returns-2 : tie.Need-returns-2
 returns-2 c = rw (c .before .before .ahead2 .given .1) (c .finish .ensures _)
 
 returns-3 : tie.Need-returns-3
-returns-3 c = rw (c .before .before .enum-told .given .1) (c .comment .ensures _ _)
+returns-3 c = rw (c .before .enum-told .given .1) (c .comment .ensures _ _)
 
 pub read-spec : {M : Type 1} → statement M
 read-spec =
@@ -46,7 +43,6 @@ read-spec =
     enum-known-ahead-2
     finish-requires
     enum-told
-    cast-comment
     comment-requires
     returns
     returns-2

@@ -30,14 +30,14 @@ sub-if2 c = search needs
 returns-3 : tie.Need-returns-3
 returns-3 c = search needs
 
+cast-end : tie.Need-cast-end
+cast-end c = omega (arith, end-small (c .before .before .before .before .before .before .before .before .before .before .before .pre))
+
 ascii-run-requires : tie.Need-ascii-run-requires
 ascii-run-requires c κs = search needs
 
 cast-columns : tie.Need-cast-columns
 cast-columns c = search needs
-
-cast-columns-2 : tie.Need-cast-columns-2
-cast-columns-2 c = omega (arith, end-small (c .before .before .before .before .before .before .before .before .before .before .before .before .pre))
 
 columns-requires : tie.Need-columns-requires
 columns-requires c κs =
@@ -47,17 +47,11 @@ columns-requires c κs =
 write-pair-requires : tie.Need-write-pair-requires
 write-pair-requires c κs = pair-fits (c .before .before .before .before .before .before .before .before .before .before .before .before .before .before .before .pre) (sym (c .before .before .before .before .before .before .before .before .before .before .short-length .ensures) ∙ c .before .before .before .before .before .before .before .before .size .given .1) (c .before .before .before .before .before .before .before .before .before .before .before .if1 .left) (c .before .before .before .before .before .before .if2 .left)
 
-cast-t24 : tie.Need-cast-t24
-cast-t24 c = omega (arith, end-small (c .before .before .before .before .before .before .before .before .before .before .before .before .before .before .before .before .before .before .before .before .pre))
-
-cast-advance : tie.Need-cast-advance
-cast-advance c = omega (arith, end-small (c .before .before .before .before .before .before .before .before .before .before .before .before .before .before .before .before .before .before .before .before .pre))
-
 advance-requires : tie.Need-advance-requires
 advance-requires c κs = search needs
 
-add-t20 : tie.Need-add-t20
-add-t20 c =
+add-t21 : tie.Need-add-t21
+add-t21 c =
     let f = pair-fits (c .before .before .before .before .before .before .before .before .before .before .before .before .before .before .before .before .before .before .before .before .before .pre) (sym (c .before .before .before .before .before .before .before .before .before .before .before .before .before .before .before .before .short-length .ensures) ∙ c .before .before .before .before .before .before .before .before .before .before .before .before .before .before .size .given .1) (c .before .before .before .before .before .before .before .before .before .before .before .before .before .before .before .before .before .if1 .left) (c .before .before .before .before .before .before .before .before .before .before .before .before .if2 .left) in
     omega (arith, f .small, f .little)
 
@@ -82,15 +76,13 @@ put-token-spec =
     returns-2
     sub-if2
     returns-3
+    cast-end
     ascii-run-requires
     cast-columns
-    cast-columns-2
     columns-requires
     write-pair-requires
-    cast-t24
-    cast-advance
     advance-requires
-    add-t20
+    add-t21
     same-length
     same-length-2
     returns-4)

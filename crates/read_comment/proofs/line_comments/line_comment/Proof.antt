@@ -33,8 +33,8 @@ one-more-comment-requires c κs =
     let h = small (c .before .before .before .before .before .before .before .before .pre .standing .stands) in
     omega (arith, h .counts, ap (λ (a : State). a .comments) (c .advance .ensures))
 
-cast-t16 : tie.Need-cast-t16
-cast-t16 c =
+cast-t17 : tie.Need-cast-t17
+cast-t17 c =
     let d = c .before .before .before .before .before .before .before in
     omega (arith, c .span .ensures, line-ends (d .before .before .before .before .before .pre) (d .run-end .ensures))
 
@@ -51,4 +51,4 @@ line-comment-spec =
     tie.close
     (tie.spec
     (λ c. search needs) (λ c κs. search needs) pos-of-requires cast-pos-of pos-of-requires-2 cast-advance (λ c κs. search needs)
-    one-more-comment-requires (λ c κs. search needs) cast-t16 returns)
+    one-more-comment-requires (λ c κs. search needs) cast-t17 returns)

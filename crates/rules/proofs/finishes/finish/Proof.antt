@@ -19,9 +19,6 @@ error-over-requires c κs = (c .before .before .before .before .before .before .
 enum-told : tie.Need-enum-told
 enum-told c = search needs
 
-cast-line-comment : tie.Need-cast-line-comment
-cast-line-comment c = search needs
-
 line-comment-requires : tie.Need-line-comment-requires
 line-comment-requires c κs = search needs
 
@@ -32,7 +29,7 @@ returns-2 : tie.Need-returns-2
 returns-2 c = error-finished (c .before .before .before .before .before .before .before .pre .0) _ (c .before .before .action2 .given .1) (c .before .before .before .before .before .before .before .pre .1) (c .error-over .ensures)
 
 returns-3 : tie.Need-returns-3
-returns-3 c = line-finished (c .before .before .before .before .before .before .before .pre .0) _ (c .before .before .enum-told .given .1) (c .line-comment .ensures)
+returns-3 c = line-finished (c .before .before .before .before .before .before .pre .0) _ (c .before .enum-told .given .1) (c .line-comment .ensures)
 
 pub finish-spec : {M : Type 1} → statement M
 finish-spec =
@@ -43,7 +40,6 @@ finish-spec =
     enum-known-action-2
     error-over-requires
     enum-told
-    cast-line-comment
     line-comment-requires
     returns
     returns-2
