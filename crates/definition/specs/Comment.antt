@@ -23,8 +23,8 @@ unfoldable pub comment-stop : ℕ → Bool
 comment-stop c = eqb c (ch "(") || (eqb c (ch "*") || is-newline-char c)
 
 -- `terminate`: the piece that began at byte `from` and whose text ends at i. `buf` holds the chunks read since, which are
--- the text's own bytes; the reading stands after the piece. Document 02: "A comment's later piece starts where the last ended", and "of a
--- comment's unclosed pieces the first ends at the text's end and the others are empty there"
+-- the text's own bytes; the reading stands after the piece. Document 02: "A comment's later piece starts where the last ended." "Of a
+-- comment's unclosed pieces the first ends at the text's end and the others are empty there."
 abbrev pub terminate : Bytes → ℕ → ℕ → Bool → State → Step
 terminate s from i closed st =
     add-comment (maybe-trim-lines (st .comment .col) (lexeme s from i ++ cps "*)")) from (st .comment) (cur-pos s st) closed (close-comment st)

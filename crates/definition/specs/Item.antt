@@ -21,37 +21,28 @@ pub record Step : Type 0 where
 
 -- ---- tokens, errors and comments
 
--- `tok`. Document 02: "16 and 17 are the start and end offset of the bytes the item was read from": it is read from byte `from` up to where
--- the state after it stands
-abbrev pub tok : ℕ → Bytes → ℕ → Pos → Pos → Extra → State → Step
-tok k text from sp ep extra next = record {
-  item = record {
-    kind = k;
-    sp = sp;
-    ep = ep;
-    length = length text;
-    comments = next .comments;
-    extra = extra;
-    from = from;
-    to = next .offset;
-  };
-  payload = text;
-  next = next;
+-- an item whose payload (of a blob: whose name) has n bytes; next is the state after it. Document 02: "16 and 17 are the start and end offset
+-- of the bytes the item was read from": they begin at byte `from`, and end where the state after it stands
+abbrev pub item-of : ℕ → ℕ → ℕ → Pos → Pos → Extra → State → Item
+item-of k n from sp ep extra next = record {
+  kind = k;
+  sp = sp;
+  ep = ep;
+  length = n;
+  comments = next .comments;
+  extra = extra;
+  from = from;
+  to = next .offset;
 }
+
+-- `tok`
+abbrev pub tok : ℕ → Bytes → ℕ → Pos → Pos → Extra → State → Step
+tok k text from sp ep extra next = record { item = item-of k (length text) from sp ep extra next; payload = text; next = next }
 
 -- a token with a blob: the payload is its name and then its contents
 abbrev pub blob-tok : ℕ → Bytes → Bytes → ℕ → Pos → Pos → Pos → Pos → State → Step
 blob-tok k name contents from sp ep pos snap next = record {
-  item = record {
-    kind = k;
-    sp = sp;
-    ep = ep;
-    length = length name;
-    comments = next .comments;
-    extra = Blob (length contents) pos snap;
-    from = from;
-    to = next .offset;
-  };
+  item = item-of k (length name) from sp ep (Blob (length contents) pos snap) next;
   payload = name ++ contents;
   next = next;
 }

@@ -5,7 +5,7 @@ use mathlib.Core.List.{List}
 use Rattle.definition.specs.Basics.{Bytes}
 use Rattle.definition.specs.Position.{one-each, pos-of}
 use Rattle.definition.specs.State.{advance}
-use Rattle.definition.specs.Item.{Step, record-size}
+use Rattle.definition.specs.Item.{Step, item-of, record-size}
 use Rattle.definition.specs.Token.{step}
 use Rattle.definition.specs.Run.{run-turn}
 use Rattle.definition.specs.declared.Extra.the-variants.{NoExtra}
@@ -15,7 +15,7 @@ use Rattle.reader.specs.declared.Cursor.{Cursor}
 use Rattle.reader.specs.declared.Payload.{Payload}
 use Rattle.reader.specs.declared.Read.{Read}
 use Rattle.reader.specs.Described.{bytes-of, length-of, Reads}
-use Rattle.reader.proofs.DescribedBuilding.{item-of, token-reads}
+use Rattle.reader.proofs.DescribedBuilding.{token-reads}
 use Rattle.reader.proofs.Short.{short-long}
 use Rattle.reader.specs.Actions.{Fits, action-step}
 use Rattle.reader.specs.declared.actions.Action.{Action}
@@ -37,7 +37,7 @@ module _ (s name f : Bytes) (at here : Cursor) (count used : ℕ) (rs : List ℕ
       let size = w .size in
       let long : size ≡ length-of name p = sym (short-long name p size (w .short)) in
       let r : Read = record {
-        item = item-of k (st .offset) (pos-of s st i) (pos-of s st to) size NoExtra (advance st to);
+        item = item-of k size (st .offset) (pos-of s st i) (pos-of s st to) NoExtra (advance st to);
         payload = p;
         next = advance st to;
         known = column-at one-each s st to;

@@ -26,27 +26,19 @@ use Rattle.laws_run.proofs.Steps.{act-says}
 
 -- ---- words 16 and 17 of a record
 
--- the item's `from` and `to`
-module _ (t : Item) (used : ℕ) where
-  word-16 : getD (words t used) 16 0 ≡ t .from
-  word-16 = go (t .extra)
-    where
-      go : (x : Extra) → getD (extra-words x ++ (t .from ∷ t .to ∷ [])) 7 0 ≡ t .from
-      go NoExtra = refl
-      go (CharLit c) = refl
-      go (Blob n p q) = refl
-      go (LexError n p q) = refl
-      go (Comment b) = refl
+-- they are the item's `from` and `to`
+last-words : (t : Item) (used : ℕ) → (getD (words t used) 16 0 ≡ t .from) × (getD (words t used) 17 0 ≡ t .to)
+last-words t used = go (t .extra)
+  where
+    after : Extra → List ℕ
+    after x = extra-words x ++ (t .from ∷ t .to ∷ [])
 
-  word-17 : getD (words t used) 17 0 ≡ t .to
-  word-17 = go (t .extra)
-    where
-      go : (x : Extra) → getD (extra-words x ++ (t .from ∷ t .to ∷ [])) 8 0 ≡ t .to
-      go NoExtra = refl
-      go (CharLit c) = refl
-      go (Blob n p q) = refl
-      go (LexError n p q) = refl
-      go (Comment b) = refl
+    go : (x : Extra) → (getD (after x) 7 0 ≡ t .from) × (getD (after x) 8 0 ≡ t .to)
+    go NoExtra = (refl, refl)
+    go (CharLit c) = (refl, refl)
+    go (Blob n p q) = (refl, refl)
+    go (LexError n p q) = (refl, refl)
+    go (Comment b) = (refl, refl)
 
 -- ---- the span of an item that is given at st
 
@@ -102,7 +94,7 @@ module _ (s name f : Bytes) where
 
   -- Word 17 is the offset of the state after the item, for every item.
   pub span-end : (st : State) (used : ℕ) → getD (words (step s name f st .item) used) 17 0 ≡ step s name f st .next .offset
-  span-end st used = word-17 (step s name f st .item) used ∙ step-to st
+  span-end st used = last-words (step s name f st .item) used .1 ∙ step-to st
 
   module _ (st : State) (t : Step) (used : ℕ) (e : token-turn s name f st ≡ done t) where
     gives : Span st t
@@ -110,12 +102,12 @@ module _ (s name f : Bytes) where
 
     -- Word 16 is the offset of the choice, for every item that is no ERROR. (EOF comes from no choice: its word 16 is the text's end.)
     pub span-start : (t .item .kind ≡ kind "ERROR" → ⊥) → getD (words (t .item) used) 16 0 ≡ st .offset
-    span-start n = word-16 (t .item) used ∙ gives .from n
+    span-start n = last-words (t .item) used .0 ∙ gives .from n
 
     -- An ERROR is empty.
     pub span-of-error : (error-number (t .item .extra) ≡ 0 → ⊥) → getD (words (t .item) used) 16 0 ≡ getD (words (t .item) used) 17 0
-    span-of-error n = word-16 (t .item) used ∙ gives .empty n ∙ sym (word-17 (t .item) used)
+    span-of-error n = last-words (t .item) used .0 ∙ gives .empty n ∙ sym (last-words (t .item) used .1)
 
   -- In mode 1 word 16 is the offset of the state before the item: "A comment's later piece starts where the last ended".
   pub span-carried : (st : State) (used : ℕ) → st .mode ≡ 1 → getD (words (step s name f st .item) used) 16 0 ≡ st .offset
-  span-carried st used m = word-16 (step s name f st .item) used ∙ carried-from st m
+  span-carried st used m = last-words (step s name f st .item) used .0 ∙ carried-from st m

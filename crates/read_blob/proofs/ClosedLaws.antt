@@ -8,9 +8,8 @@ use lib.Seq.{length-slice}
 use Rattle.definition.specs.Basics.{Bytes}
 use Rattle.definition.specs.Text.{lexeme}
 use Rattle.definition.specs.State.{advance}
-use Rattle.definition.specs.declared.Pos.{Pos}
+use Rattle.definition.specs.Item.{item-of}
 use Rattle.definition.specs.declared.State.{State}
-use Rattle.definition.specs.declared.Item.{Item}
 use Rattle.definition.specs.declared.Extra.the-variants.{Blob}
 use Rattle.state.specs.Sound.{Stands}
 use Rattle.position.specs.Columns.{located}
@@ -22,19 +21,6 @@ use Rattle.reader.specs.Described.{Describes, Reads}
 use Rattle.reader.proofs.Standing.{known-asked, known-kept, position-kept}
 use Rattle.read_blob.specs.declared.Header.{Header}
 use Rattle.read_blob.specs.Contents.{header-of, kind-of, blob-step, InBlob}
-
--- the item, by its numbers
-abbrev item-of : ℕ → Pos → Pos → ℕ → ℕ → Header → State → Item
-item-of k sp ep n m h next = record {
-  kind = k;
-  sp = sp;
-  ep = ep;
-  length = n;
-  comments = next .comments;
-  extra = Blob m (h .pos) (h .snap);
-  from = h .from;
-  to = next .offset;
-}
 
 module _ (s : Bytes) (header : Header) (lang : Bool) (from : ℕ) (at : Cursor) (e : ℕ) (h : InBlob s header from at) (next : Stands s (advance (at .st) e)) where
   abbrev st : State
@@ -58,7 +44,7 @@ module _ (s : Bytes) (header : Header) (lang : Bool) (from : ℕ) (at : Cursor) 
       → k ≡ kind-of lang → n ≡ header .to - header .name → m ≡ st .offset - from → after ≡ advance st e → (name f : Bytes)
       → Reads s name f (blob-step s lang from (header-of s header) st e)
       (record {
-        item = item-of k (start .pos) (end .pos) n m header after;
+        item = item-of k n (header .from) (start .pos) (end .pos) (Blob m (header .pos) (header .snap)) after;
         payload = Blob-of (header .name) (header .to) from (st .offset);
         next = after;
         known = end .known;

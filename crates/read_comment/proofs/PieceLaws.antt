@@ -7,6 +7,7 @@ use lib.ListN.{length}
 use Rattle.definition.specs.Basics.{Bytes}
 use Rattle.definition.specs.Trim.{split-lines, trim-width, maybe-trim-lines}
 use Rattle.definition.specs.State.{close-comment}
+use Rattle.definition.specs.Item.{item-of}
 use Rattle.definition.specs.Comment.{terminate}
 use Rattle.definition.specs.declared.State.{State}
 use Rattle.definition.specs.declared.Extra.the-variants.{Comment}
@@ -44,16 +45,7 @@ module _ {s : Bytes} {to : ℕ} {at : Cursor} (from : ℕ) (h : Ending s to at) 
       → end ≡ located s (at .st) (at .st .offset)
       → next ≡ close-comment (at .st)
       → ReadsAny s (terminate s from to closed (at .st)) (record {
-        item = record {
-          kind = 0;
-          sp = at .st .comment;
-          ep = end .pos;
-          length = n;
-          comments = next .comments;
-          extra = Comment closed;
-          from = from;
-          to = next .offset;
-        };
+        item = item-of 0 n from (at .st .comment) (end .pos) (Comment closed) next;
         payload = Piece from to width n;
         next = next;
         known = end .known;

@@ -11,6 +11,7 @@ use Rattle.definition.specs.Text.{lexeme, star, run-end}
 use Rattle.definition.specs.Chars.{is-newline-char}
 use Rattle.definition.specs.Position.{one-each}
 use Rattle.definition.specs.State.{advance, one-more-comment}
+use Rattle.definition.specs.Item.{item-of}
 use Rattle.definition.specs.Comment.{line-comment}
 use Rattle.definition.specs.declared.State.{State}
 use Rattle.definition.specs.declared.Extra.the-variants.{Comment}
@@ -58,16 +59,7 @@ module _ {s : Bytes} {from to : ℕ} {at : Cursor} (h : After s from at) (e : to
       → end ≡ located s (at .st) to
       → next ≡ one-more-comment (advance (at .st) to)
       → ReadsAny s (line-comment s from (lexeme s from (at .st .offset)) (at .st)) (record {
-        item = record {
-          kind = 0;
-          sp = start .pos;
-          ep = end .pos;
-          length = n;
-          comments = next .comments;
-          extra = Comment true;
-          from = from;
-          to = next .offset;
-        };
+        item = item-of 0 n from (start .pos) (end .pos) (Comment true) next;
         payload = Part from to;
         next = next;
         known = end .known;

@@ -8,10 +8,9 @@ use Rattle.definition.specs.Basics.{Bytes}
 use Rattle.definition.specs.Kinds.{kind}
 use Rattle.definition.specs.Position.{cur-pos}
 use Rattle.definition.specs.State.{ended}
-use Rattle.definition.specs.Item.{tok, lex-error}
+use Rattle.definition.specs.Item.{item-of, tok, lex-error}
 use Rattle.definition.specs.declared.Pos.{Pos}
 use Rattle.definition.specs.declared.State.{State}
-use Rattle.definition.specs.declared.Item.{Item}
 use Rattle.definition.specs.declared.Extra.{Extra}
 use Rattle.definition.specs.declared.Extra.the-variants.{LexError}
 use Rattle.position.specs.Columns.{located}
@@ -24,24 +23,12 @@ use Rattle.reader.specs.Described.{length-of, Describes, Known-at, Reads
 use Rattle.reader.specs.Standing.{Standing}
 use Rattle.reader.proofs.Standing.{known-asked, known-kept}
 
--- the item of a token whose payload has n bytes
-abbrev pub item-of : ℕ → ℕ → Pos → Pos → ℕ → Extra → State → Item
-item-of k from sp ep n extra next = record {
-  kind = k;
-  sp = sp;
-  ep = ep;
-  length = n;
-  comments = next .comments;
-  extra = extra;
-  from = from;
-  to = next .offset;
-}
-
+-- a token of n bytes of payload
 pub token-reads : (s name f bytes : Bytes) (k : ℕ) (p : Payload) (from : ℕ) (sp ep : Pos) (extra : Extra) (next : State) (known : Cache) (n : ℕ)
     → n ≡ length-of name p → Describes s name f p bytes → Known-at s next known
-    → Reads s name f (tok k bytes from sp ep extra next) (record { item = item-of k from sp ep n extra next; payload = p; next = next; known = known })
+    → Reads s name f (tok k bytes from sp ep extra next) (record { item = item-of k n from sp ep extra next; payload = p; next = next; known = known })
 token-reads s name f bytes k p from sp ep extra next known n e d q = record {
-  item = ap (λ (m : ℕ). item-of k from sp ep m extra next) (e ∙ d .long);
+  item = ap (λ (m : ℕ). item-of k m from sp ep extra next) (e ∙ d .long);
   payload = d;
   next = refl;
   known = q;
