@@ -30,8 +30,8 @@ class Wrong(Exception):
 
 
 class Item:
-    """An item that should come: its numbers and its payload; and, once reckoned, the offsets and the first position of the bytes that it
-    is read from, and the state after it."""
+    """An item that should come: its numbers and its payload; and, once reckoned, where its choice was made or its piece began (offset and
+    position), where it ends, and the state after it."""
 
     def __init__(self, words, payload):
         self.words, self.payload = words, payload
@@ -352,8 +352,9 @@ def reckon(case):
                 raise case.wrong("item %d ends at %d:%d, which the text doesn't come to" % (number, words[4], words[5]))
             walk.step(has_lines, is_string)
         item.end = walk.at
-        if item.span() != [item.end if item.is_last() else item.begin, item.end]:
-            raise case.wrong("item %d is not read from byte %d up to byte %d" % (number, *item.span()))
+        span = [item.end if item.is_last() else item.begin, item.end]
+        if item.span() != span:
+            raise case.wrong("item %d is read from byte %d up to byte %d, and not from byte %d up to byte %d" % (number, *span, *item.span()))
         state = item.after = state_after(case, item, walk, state)
     if case.after not in (None, state):
         raise case.wrong("the state after its last item is %s" % state)

@@ -126,7 +126,7 @@ def position(words, at):
     return {"line": words[at], "column": words[at + 1]}
 
 
-def place_of(words):
+def where_of(words):
     """Where an item stands, by its positions and by the bytes that it was read from."""
     return {"start": position(words, 2), "end": position(words, 4), "from": words[16], "to": words[17]}
 
@@ -159,7 +159,7 @@ def error_of(words):
 
 
 def token_of(words, payload, kinds):
-    item = {"item": "token", "kind": kinds[words[1]], **place_of(words), "comments": words[8]}
+    item = {"item": "token", "kind": kinds[words[1]], **where_of(words), "comments": words[8]}
     mark = words[9]
     if mark == BLOB:
         item["blob"] = blob_of(words, payload)
@@ -173,7 +173,7 @@ def token_of(words, payload, kinds):
 
 
 def comment_of(words, payload):
-    item = {"item": "comment", **place_of(words), "number": words[8], "closed": words[9] == CLOSED}
+    item = {"item": "comment", **where_of(words), "number": words[8], "closed": words[9] == CLOSED}
     put_text(item, "payload", payload, words[6], words[7])
     return item
 

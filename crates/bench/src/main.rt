@@ -146,6 +146,7 @@ fn main() {
         return;
     }
     say(last.items);
+    // Both buffers are longer.
     let k = (last.items % 1048576) as usize;
     say(wide_number(records[k]));
     say(wide_byte(payload[k]));

@@ -1,4 +1,4 @@
--- `blob` and `use_lang`. The contents are the text's own bytes, from byte `contents` on: `acc` holds them in chunks.
+-- `blob` and `use_lang`. The contents are the text's own bytes, from byte `from` on: `acc` holds them in chunks.
 use Prim.Native.Nat.{ℕ}
 use mathlib.Core.Bool.{Bool, true, false, _||_}
 use lib.Dec.{ltb, leb, eqb}
@@ -16,13 +16,13 @@ use Rattle.definition.specs.declared.Pos.{Pos}
 use Rattle.definition.specs.declared.State.{State}
 use Rattle.definition.specs.declared.Match.the-variants.{To, Nothing}
 
--- what a blob's header says: its name, the position after it, its start's position, and the byte that it starts at: document 02 has "a blob
--- at its header"
+-- what a blob's header says: its name, the position after it, and its start, by its position and its byte. Document 02: "a blob at its
+-- header"
 pub record Header : Type 0 where
   pub name : Bytes
   pub pos : Pos
   pub snap : Pos
-  pub from : ℕ
+  pub start : ℕ
 
 abbrev pub unterminated : Bytes → State → Step
 unterminated s st = error-here s st 2
@@ -32,12 +32,12 @@ blob-stop c = eqb c (ch "`") || is-newline-char c
 
 -- one call of `blob`
 abbrev pub blob-turn : Bytes → ℕ → Header → State → Turn State Step
-blob-turn s contents h st =
+blob-turn s from h st =
     let i = st .offset in
     elim (match-lit s (cps "```") i) [
       | To e ↦ done (
           let next = advance st e in
-          blob-tok (kind "BLOB") (h .name) (lexeme s contents i) (h .from) (cur-pos s st) (cur-pos s next) (h .pos) (h .snap) next)
+          blob-tok (kind "BLOB") (h .name) (lexeme s from i) (h .start) (cur-pos s st) (cur-pos s next) (h .pos) (h .snap) next)
       | Nothing ↦ elim (leb (length s) i) [
         | true ↦ done (unterminated s st)
         | false ↦ elim (match-newline s i) [
@@ -55,12 +55,12 @@ blob s h st = loop (blob-turn s (st .offset) h) (unterminated s) (fuel s) st
 -- one call of `use_lang`; it ends at the text's end alone. Before it a line end stands where the run of other characters ends, so
 -- that the last arm, like `out` below, is never taken
 abbrev pub lang-turn : Bytes → ℕ → Header → State → Turn State Step
-lang-turn s contents h st =
+lang-turn s from h st =
     let i = st .offset in
     let p = cur-pos s st in
     let j = run-end is-newline-char s i in
     elim (leb (length s) i) [
-      | true ↦ done (blob-tok (kind "USE_LANG_BLOB") (h .name) (lexeme s contents i) (h .from) p p (h .pos) (h .snap) st)
+      | true ↦ done (blob-tok (kind "USE_LANG_BLOB") (h .name) (lexeme s from i) (h .start) p p (h .pos) (h .snap) st)
       | false ↦ elim (ltb i j) [
         | true ↦ again (advance st j)
         | false ↦ elim (match-newline s i) [ To nl ↦ again (new-line (advance st nl)) | Nothing ↦ done (unterminated s st) ]

@@ -50,8 +50,8 @@ blob-tok k name contents from sp ep pos snap next = record {
 -- `lex_error` and the ERROR token of `lex_all`: "ERROR sits where reading stopped"; st is the state there. Document 02: "EOF and ERROR are
 -- empty at their position"
 abbrev pub lex-error : Bytes → State → ℕ → Bytes → Pos → Pos → Step
-lex-error s st number text from to =
-    tok (kind "ERROR") text (st .offset) (cur-pos s st) (cur-pos s st) (LexError number from to) (ended st)
+lex-error s st number text p1 p2 =
+    tok (kind "ERROR") text (st .offset) (cur-pos s st) (cur-pos s st) (LexError number p1 p2) (ended st)
 
 -- an error without a text, whose range is where reading stopped
 abbrev pub error-here : Bytes → State → ℕ → Step
@@ -84,7 +84,7 @@ abbrev pub extra-words : Extra → List ℕ
 extra-words NoExtra = 0 ∷ 0 ∷ 0 ∷ 0 ∷ 0 ∷ 0 ∷ 0 ∷ []
 extra-words (CharLit c) = 1 ∷ c ∷ 0 ∷ 0 ∷ 0 ∷ 0 ∷ 0 ∷ []
 extra-words (Blob n pos snap) = 2 ∷ n ∷ pos .line ∷ pos .col ∷ snap .line ∷ snap .col ∷ 0 ∷ []
-extra-words (LexError n from to) = 3 ∷ n ∷ from .line ∷ from .col ∷ to .line ∷ to .col ∷ 0 ∷ []
+extra-words (LexError n p1 p2) = 3 ∷ n ∷ p1 .line ∷ p1 .col ∷ p2 .line ∷ p2 .col ∷ 0 ∷ []
 extra-words (Comment closed) = mark closed ∷ 0 ∷ 0 ∷ 0 ∷ 0 ∷ 0 ∷ 0 ∷ []
 
 -- the numbers of an item whose payload begins at byte `used` of the payload buffer

@@ -290,7 +290,7 @@ stop-rows = (
       all-of (run-on ab (started 1 0) 53 3),
       0 ∷ 0 ∷ 1 ∷ 2 ∷ (at-line-1 3 0 ++ (first-ident ++ (second-ident ++ (replicate 17 7 ++ (cps "ab" ++ (7 ∷ [])))))),
     )
-    ∷ ("17 numbers lent take no item", all-of (run-on ab (started 1 0) 17 1), 0 ∷ 0 ∷ 1 ∷ 0 ∷ (at-line-1 0 0 ++ replicate 18 7))
+    ∷ ("17 numbers lent take no item", all-of (run-on ab (started 1 0) 17 1), 0 ∷ 0 ∷ 1 ∷ 0 ∷ (at-line-1 0 0 ++ (replicate 17 7 ++ (7 ∷ []))))
     ∷ ("18 numbers lent take one", all-of (run-on ab (started 1 0) 18 1), 0 ∷ 0 ∷ 1 ∷ 1 ∷ (at-line-1 1 0 ++ (first-ident ++ cps "a")))
     ∷ (
       "a payload too long is stop 2",

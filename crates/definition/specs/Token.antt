@@ -93,7 +93,7 @@ finish-word s st e table k =
 
 -- the header of a blob whose name begins after n bytes
 abbrev pub blob-header : Bytes → State → ℕ → ℕ → Header
-blob-header s st e n = record { name = lexeme s (st .offset + n) e; pos = pos-of s st e; snap = cur-pos s st; from = st .offset }
+blob-header s st e n = record { name = lexeme s (st .offset + n) e; pos = pos-of s st e; snap = cur-pos s st; start = st .offset }
 
 -- `RCharLit`, `RCharLitB`
 abbrev pub char-lit : Bytes → State → ℕ → Token-turn

@@ -172,7 +172,7 @@ pub enum Extra {
     NoExtra,
     CharLit(u32),
     Blob { contents: u32, pos: Pos, snap: Pos },
-    LexError { number: u32, from: Pos, to: Pos },
+    LexError { number: u32, p1: Pos, p2: Pos },
     Comment(bool),
 }
 

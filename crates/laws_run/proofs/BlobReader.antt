@@ -32,7 +32,7 @@ use Rattle.laws_run.proofs.Forms.{Form, blob as a-blob, error}
 module _ (s : Bytes) (from : ℕ) (h : Header) where
   -- a blob whose contents began at byte `from` ends at st: with a path to its end, or unterminated
   pub data BlobEnd (st : State) : Step → Type 0 where
-    closes : {b : State} (k : ℕ) (sp ep : Pos) → Path s st b → BlobEnd st (blob-tok k (h .name) (lexeme s from (st .offset)) (h .from) sp ep (h .pos) (h .snap) b)
+    closes : {b : State} (k : ℕ) (sp ep : Pos) → Path s st b → BlobEnd st (blob-tok k (h .name) (lexeme s from (st .offset)) (h .start) sp ep (h .pos) (h .snap) b)
     open-ended : BlobEnd st (unterminated s st)
 
   -- a turn of `blob`
@@ -123,7 +123,7 @@ contents-on p q =
 begins : {s : Bytes} (st : State) {e : ℕ} → Onward s (st .offset) e → Contents s e st (advance st e)
 begins st {e} o = record { path = on e stay (walk-ahead (o .walk)); past = o .past; begun = omega arith }
 
-module _ {s name : Bytes} {U : Type 0} (h : Header) (st : State) {e : ℕ} (begun : h .from ≡ st .offset) (o : Onward s (st .offset) e)
+module _ {s name : Bytes} {U : Type 0} (h : Header) (st : State) {e : ℕ} (begun : h .start ≡ st .offset) (o : Onward s (st .offset) e)
     (named : length (h .name) + st .offset ≤ e) where
   contents-end : {a : State} {t : Step} → Contents s e st a → BlobEnd s e h a t → Form s name U st t
   contents-end {a} p (closes k sp ep q) =

@@ -26,8 +26,8 @@ pub record Filled (s name f : Bytes) (st : State) (rs : List ℕ) (ps : Bytes) (
 
 -- ---- why a run stops
 
--- at b, with n items and `used` payload bytes written: "the end (stop 0)", by document 02 "fewer than 18 numbers left" (stop 1), "or a payload longer
--- than the bytes left (stop 2); 1 goes before 2"
+-- at b, with n items and `used` payload bytes written: "the end (stop 0)", by document 02 "fewer than 18 numbers left" (stop 1), "or a
+-- payload longer than the bytes left (stop 2); 1 goes before 2"
 pub record Stops (s name f : Bytes) (rs : List ℕ) (ps : Bytes) (n used : ℕ) (b : State) (stop : ℕ) : Type 0 where
   pub at-end : stop ≡ 0 ↔ b .mode ≡ 2
   pub records-full : stop ≡ 1 ↔ ((b .mode ≡ 2 → ⊥) × (length rs - record-size * n < record-size))

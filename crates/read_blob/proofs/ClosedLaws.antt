@@ -30,27 +30,27 @@ module _ (s : Bytes) (header : Header) (lang : Bool) (from : ℕ) (at : Cursor) 
   here = stands-within (h .standing .stands)
 
   -- the two parts
-  describes : (name f : Bytes) → Describes s name f (Blob-of (header .name) (header .to) from (st .offset)) (blob-step s lang from (header-of s header) st e .payload)
+  describes : (name f : Bytes) → Describes s name f (Blob-of (header .from) (header .to) from (st .offset)) (blob-step s lang from (header-of s header) st e .payload)
   describes name f = record {
     is = refl;
     long =
-        sym (length-append (lexeme s (header .name) (header .to)) (lexeme s from (st .offset))
-        ∙ ap (λ (n : ℕ). n + length (lexeme s from (st .offset))) (length-slice (header .name) (header .to) s (h .named))
-        ∙ ap (λ (n : ℕ). (header .to - header .name) + n) (length-slice from (st .offset) s here));
+        sym (length-append (lexeme s (header .from) (header .to)) (lexeme s from (st .offset))
+        ∙ ap (λ (n : ℕ). n + length (lexeme s from (st .offset))) (length-slice (header .from) (header .to) s (h .named))
+        ∙ ap (λ (n : ℕ). (header .to - header .from) + n) (length-slice from (st .offset) s here));
     inside = (h .named, here);
   }
 
   pub closed-reads : (start end : Located) (k n m : ℕ) (after : State) → start ≡ located s st (st .offset) → end ≡ located s st e
-      → k ≡ kind-of lang → n ≡ header .to - header .name → m ≡ st .offset - from → after ≡ advance st e → (name f : Bytes)
+      → k ≡ kind-of lang → n ≡ header .to - header .from → m ≡ st .offset - from → after ≡ advance st e → (name f : Bytes)
       → Reads s name f (blob-step s lang from (header-of s header) st e)
       (record {
-        item = item-of k n (header .from) (start .pos) (end .pos) (Blob m (header .pos) (header .snap)) after;
-        payload = Blob-of (header .name) (header .to) from (st .offset);
+        item = item-of k n (header .start) (start .pos) (end .pos) (Blob m (header .pos) (header .snap)) after;
+        payload = Blob-of (header .from) (header .to) from (st .offset);
         next = after;
         known = end .known;
       })
   closed-reads start end k n m after p q r a b c name f = record {
-    item = rw (p, q, r, a, b, c, length-slice (header .name) (header .to) s (h .named), length-slice from (st .offset) s here, position-kept s st (advance st e) e refl refl refl);
+    item = rw (p, q, r, a, b, c, length-slice (header .from) (header .to) s (h .named), length-slice from (st .offset) s here, position-kept s st (advance st e) e refl refl refl);
     payload = describes name f;
     next = c;
     known = rw q (known-kept st (advance st e) refl refl (known-asked (h .standing) e (next .sound .order)));

@@ -20,7 +20,7 @@ use Rattle.read_blob.specs.declared.Move.the-variants.{Close, Open, Line
 
 -- the definition's header
 abbrev pub header-of : Bytes → Header → source.Header
-header-of s h = record { name = lexeme s (h .name) (h .to); pos = h .pos; snap = h .snap; from = h .from }
+header-of s h = record { name = lexeme s (h .from) (h .to); pos = h .pos; snap = h .snap; start = h .start }
 
 abbrev pub kind-of : Bool → ℕ
 kind-of true = kind "USE_LANG_BLOB"
@@ -39,7 +39,7 @@ contents s false h st = source.blob s h st
 abbrev pub blob-step : Bytes → Bool → ℕ → source.Header → State → ℕ → Step
 blob-step s lang from h st e =
     let next = advance st e in
-    blob-tok (kind-of lang) (h .name) (lexeme s from (st .offset)) (h .from) (cur-pos s st) (cur-pos s next) (h .pos) (h .snap) next
+    blob-tok (kind-of lang) (h .name) (lexeme s from (st .offset)) (h .start) (cur-pos s st) (cur-pos s next) (h .pos) (h .snap) next
 
 -- what a turn makes of what stands at the state's offset
 abbrev pub does : Bytes → Bool → ℕ → source.Header → State → Move → Turn State Step

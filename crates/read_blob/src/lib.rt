@@ -31,11 +31,11 @@ ghost use Rattle.reader.specs.Described.{Reads, Turns};
 ghost use Rattle.read_blob.specs.Moves.{contents-move, inside-move, blob-move, lang-move, move-at};
 ghost use Rattle.read_blob.specs.Contents.{header-of, kind-of, contents-turn, contents, blob-step, InBlob};
 
-// What a blob's header says: where it begins in the text, where its name does, and where both end; the position after it,
-// and its start.
+// What a blob's header says: the byte where it starts, where its name stands in the text, the position after it, and that of
+// its start.
 pub struct Header {
-    pub from: u32,
-    pub name: usize,
+    pub start: u32,
+    pub from: usize,
     pub to: usize,
     pub pos: Pos,
     pub snap: Pos,
@@ -144,14 +144,14 @@ fn closed(text: &[u8], header: Header, lang: bool, from: usize, at: Cursor, e: u
         kind: kind_of(lang),
         sp: sp,
         ep: ep,
-        length: span(header.name, header.to) as u32,
+        length: span(header.from, header.to) as u32,
         comments: next.comments,
         extra: extra,
-        from: header.from,
+        from: header.start,
         to: next.offset,
     };
     let payload = Payload::Blob {
-        from: header.name,
+        from: header.from,
         to: header.to,
         contents: from,
         end: i,

@@ -56,7 +56,7 @@ pub close-reads : {s name : Bytes} {count e : ℕ} {at : Cursor} {quote : ℕ} {
     → Closing s count at e → end ≡ located s (at .st) e → next ≡ advance (at .st) e
     → ((s f bytes : Bytes) → Describes s name f p bytes → Known-at s next (end .known) → Reads s name f (tok (kind "STRING") bytes quote sp (end .pos) NoExtra next) r)
     → (f acc : Bytes) → Describes s name f p acc → Reads s name f (closed s acc quote sp (at .st) e) r
-close-reads {s} {name} {count} {e} {at} {sp} {p} {r} end next h q a build f acc d =
+close-reads {s} {e = e} {at = at} end next h q a build f acc d =
     let st = at .st in
     let known : Known-at s (advance st e) (located s st e .known) =
     known-kept st (advance st e) refl refl (known-asked (h .standing) e (h .next .sound .order)) in

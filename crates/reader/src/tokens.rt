@@ -59,17 +59,17 @@ pub fn lex_error(
     known: Cache,
     number: u32,
     payload: Payload,
-    from: Pos,
-    to: Pos,
+    p1: Pos,
+    p2: Pos,
 ) -> Read
     requires { ⌜ Standing (now text) st known × Sized (now name) payload ⌝ }
-    ensures { λ r. ⌜ ((f bytes : Bytes) → Describes (now (text .entry)) (now (name .entry)) f payload bytes → Reads (now (text .entry)) (now (name .entry)) f (lex-error (now (text .entry)) st number bytes from to) r) ⌝ }
+    ensures { λ r. ⌜ ((f bytes : Bytes) → Describes (now (text .entry)) (now (name .entry)) f payload bytes → Reads (now (text .entry)) (now (name .entry)) f (lex-error (now (text .entry)) st number bytes p1 p2) r) ⌝ }
 {
     let here = pos_of(text, st, known, st.offset);
     let extra = Extra::LexError {
         number: number,
-        from: from,
-        to: to,
+        p1: p1,
+        p2: p2,
     };
     token(
         name,

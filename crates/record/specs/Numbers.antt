@@ -13,7 +13,7 @@ abbrev pub extra-numbers : Extra → ExtraNumbers
 extra-numbers NoExtra = record { sort = 1; tag = 0; first = 0; line = 0; col = 0; «to_line» = 0; «to_col» = 0 }
 extra-numbers (CharLit c) = record { sort = 1; tag = 1; first = c; line = 0; col = 0; «to_line» = 0; «to_col» = 0 }
 extra-numbers (Blob n pos snap) = record { sort = 1; tag = 2; first = n; line = pos .line; col = pos .col; «to_line» = snap .line; «to_col» = snap .col }
-extra-numbers (LexError n from to) = record { sort = 1; tag = 3; first = n; line = from .line; col = from .col; «to_line» = to .line; «to_col» = to .col }
+extra-numbers (LexError n p1 p2) = record { sort = 1; tag = 3; first = n; line = p1 .line; col = p1 .col; «to_line» = p2 .line; «to_col» = p2 .col }
 extra-numbers (Comment closed) = record { sort = 2; tag = mark closed; first = 0; line = 0; col = 0; «to_line» = 0; «to_col» = 0 }
 
 -- the numbers of a record

@@ -67,14 +67,14 @@ fn extra_numbers(extra: Extra) -> ExtraNumbers
             to_line: snap.line,
             to_col: snap.col,
         },
-        Extra::LexError { number, from, to } => ExtraNumbers {
+        Extra::LexError { number, p1, p2 } => ExtraNumbers {
             sort: 1,
             tag: 3,
             first: number,
-            line: from.line,
-            col: from.col,
-            to_line: to.line,
-            to_col: to.col,
+            line: p1.line,
+            col: p1.col,
+            to_line: p2.line,
+            to_col: p2.col,
         },
         Extra::Comment(closed) => ExtraNumbers {
             sort: 2,

@@ -96,5 +96,5 @@ module _ {s : Bytes} {at : Cursor} {e : ℕ} (h : Chose s at e) where
   -- a blob-header has both of the choice's positions
   pub header-names : {start end : Located} (n : ℕ) → start ≡ located s (at .st) (at .st .offset) → end ≡ located s (at .st) e
       → Names s (blob-header s (at .st) e n) e
-      (record { from = at .st .offset; name = at .st .offset + n; to = e; pos = end .pos; snap = start .pos })
+      (record { start = at .st .offset; from = at .st .offset + n; to = e; pos = end .pos; snap = start .pos })
   header-names n p q = record { is = rw (p, q) refl; ends = refl }

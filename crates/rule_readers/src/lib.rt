@@ -79,8 +79,8 @@ fn header_at(text: &[u8], at: Cursor, e: usize, n: usize) -> Header
     let pos = end.pos;
     let snap = start.pos;
     Header {
-        from: st.offset,
-        name: st.offset as usize + n,
+        start: st.offset,
+        from: st.offset as usize + n,
         to: e,
         pos: pos,
         snap: snap,

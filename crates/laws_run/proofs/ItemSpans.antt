@@ -1,6 +1,6 @@
 -- Document 02, K3: "16 and 17 are the start and end offset of the bytes the item was read from". Every item ends where the state after it
--- stands, and one that is no ERROR starts where its choice was made, or, in a comment, where the state before it stands. These hold in every
--- text and from every state. Rests on the walk over the rules (Rules, Steps) and on pieces of comments (CommentReader).
+-- stands; one that is no ERROR starts where its choice was made, or, in a comment, where the state before it stands; and an ERROR is empty.
+-- These hold in every text and from every state. Rests on the walk over the rules (Rules, Steps) and on pieces of comments (CommentReader).
 use Prim.Native.Nat.{ℕ}
 use mathlib.Core.Path.{_≡_, refl, sym, ap, subst, _∙_}
 use mathlib.Core.List.{List, [], _∷_, _++_}
@@ -13,14 +13,13 @@ use Rattle.definition.specs.Kinds.{kind}
 use Rattle.definition.specs.Item.{Step, error-here, extra-words, words}
 use Rattle.definition.specs.Select.{select}
 use Rattle.definition.specs.Token.{act, token-turn, next-token, step}
-use Rattle.definition.specs.Reading.{error-number}
 use Rattle.definition.specs.declared.State.{State}
 use Rattle.definition.specs.declared.Item.{Item}
 use Rattle.definition.specs.declared.Extra.{Extra}
 use Rattle.definition.specs.declared.Extra.the-variants.{NoExtra, CharLit, Blob, LexError, Comment}
 use Rattle.lemmas.proofs.Loops.{Leads, leads-map, Any, loop-keeps}
 use Rattle.lemmas.proofs.Cases.{by-test, by-le}
-use Rattle.laws_run.proofs.Forms.{nothing, code-point, Piece, Form, token, blob, line, opened, error}
+use Rattle.laws_run.proofs.Forms.{nothing, code-point, Piece, Form, token, blob, line, opened, error as an-error}
 use Rattle.laws_run.proofs.CommentReader.{comment-piece}
 use Rattle.laws_run.proofs.Steps.{act-says}
 
@@ -42,11 +41,19 @@ last-words t used = go (t .extra)
 
 -- ---- the span of an item that is given at st
 
--- it ends where the state after it stands; if it is no ERROR it starts at st, and an ERROR is empty
+-- an ERROR, by what it holds besides
+abbrev pub IsError : Extra → Type 0
+IsError NoExtra = ⊥
+IsError (CharLit c) = ⊥
+IsError (Blob n p q) = ⊥
+IsError (LexError n p1 p2) = Unit {0}
+IsError (Comment b) = ⊥
+
+-- it ends where the state after it stands; if it is no ERROR it starts at st, and an ERROR, which has that kind, is empty
 record Span (st : State) (t : Step) : Type 0 where
   to : t .item .to ≡ t .next .offset
-  from : (t .item .kind ≡ kind "ERROR" → ⊥) → t .item .from ≡ st .offset
-  empty : (error-number (t .item .extra) ≡ 0 → ⊥) → t .item .from ≡ t .item .to
+  from : (IsError (t .item .extra) → ⊥) → t .item .from ≡ st .offset
+  error : IsError (t .item .extra) → (t .item .kind ≡ kind "ERROR") × (t .item .from ≡ t .item .to)
 
 -- a piece of a comment that began at byte `from`
 piece-from : {s : Bytes} {from : ℕ} {st : State} {t : Step} → Piece s from st t → t .item .from ≡ from
@@ -57,23 +64,23 @@ piece-to p = subst (λ (x : Step). x .item .to ≡ x .next .offset) (sym (p .is)
 
 -- every form
 form-span : {s name : Bytes} {U : Type 0} {st : State} {t : Step} → Form s name U st t → Span st t
-form-span (token k text sp ep nothing p l b) = record { to = refl; from = λ _. refl; empty = λ n. absurd (n refl) }
-form-span (token k text sp ep (code-point c) p l b) = record { to = refl; from = λ _. refl; empty = λ n. absurd (n refl) }
-form-span (blob k title contents sp ep pos snap p l b) = record { to = refl; from = λ _. refl; empty = λ n. absurd (n refl) }
-form-span (line text sp ep o b) = record { to = refl; from = λ _. refl; empty = λ n. absurd (n refl) }
+form-span (token k text sp ep nothing p l b) = record { to = refl; from = λ _. refl; error = λ e. absurd e }
+form-span (token k text sp ep (code-point c) p l b) = record { to = refl; from = λ _. refl; error = λ e. absurd e }
+form-span (blob k title contents sp ep pos snap p l b) = record { to = refl; from = λ _. refl; error = λ e. absurd e }
+form-span (line text sp ep o b) = record { to = refl; from = λ _. refl; error = λ e. absurd e }
 form-span (opened o p) = record {
   to = piece-to p;
   from = λ _. piece-from p;
-  empty = λ n. absurd (n (ap (λ (x : Step). error-number (x .item .extra)) (p .is)));
+  error = λ e. absurd (subst (λ (x : Step). IsError (x .item .extra)) (p .is) e);
 }
-form-span (error n text from to p b u) = record { to = refl; from = λ e. absurd (e refl); empty = λ _. refl }
+form-span (an-error n text p1 p2 p b u) = record { to = refl; from = λ n. absurd (n tt); error = λ _. (refl, refl) }
 
 module _ (s name f : Bytes) where
   -- what a turn gives; at the text's end there is no choice, and EOF is empty there
   turn-span : (st : State) → Leads Any (Span st) (token-turn s name f st)
   unfolding token-turn
   turn-span st =
-      by-le (Leads Any (Span st)) (length s) (st .offset) (λ _. record { to = refl; from = λ _. refl; empty = λ _. refl })
+      by-le (Leads Any (Span st)) (length s) (st .offset) (λ _. record { to = refl; from = λ _. refl; error = λ e. absurd e })
       (λ l. leads-map (λ b g. tt) (λ t v. form-span v) (act s name f st (select s f (st .offset))) (act-says s name f st (omega arith)))
 
   -- what a step gives
@@ -101,12 +108,13 @@ module _ (s name f : Bytes) where
     gives = subst (Leads Any (Span st)) e (turn-span st)
 
     -- Word 16 is the offset of the choice, for every item that is no ERROR. (EOF comes from no choice: its word 16 is the text's end.)
-    pub span-start : (t .item .kind ≡ kind "ERROR" → ⊥) → getD (words (t .item) used) 16 0 ≡ st .offset
+    pub span-start : (IsError (t .item .extra) → ⊥) → getD (words (t .item) used) 16 0 ≡ st .offset
     span-start n = last-words (t .item) used .0 ∙ gives .from n
 
-    -- An ERROR is empty.
-    pub span-of-error : (error-number (t .item .extra) ≡ 0 → ⊥) → getD (words (t .item) used) 16 0 ≡ getD (words (t .item) used) 17 0
-    span-of-error n = last-words (t .item) used .0 ∙ gives .empty n ∙ sym (last-words (t .item) used .1)
+    -- An ERROR is empty, and has that kind.
+    pub span-of-error : IsError (t .item .extra)
+        → (getD (words (t .item) used) 16 0 ≡ getD (words (t .item) used) 17 0) × (t .item .kind ≡ kind "ERROR")
+    span-of-error e = (last-words (t .item) used .0 ∙ gives .error e .1 ∙ sym (last-words (t .item) used .1), gives .error e .0)
 
   -- In mode 1 word 16 is the offset of the state before the item: "A comment's later piece starts where the last ended".
   pub span-carried : (st : State) (used : ℕ) → st .mode ≡ 1 → getD (words (step s name f st .item) used) 16 0 ≡ st .offset
