@@ -6,8 +6,8 @@ its eighteen numbers (word 6 being 0) and its payload in hexadecimal. runs.jsonl
 `text`, `name` and `classes` in hexadecimal, `state`, `records` and `payload` (how much is lent), `refusal`, `offset`, `stop`, `count`,
 `after` (the state handed back), `items` with word 6.
 
-Nothing here comes from a run of the lexer: the state after an item is reckoned from the position where the item ends, and so are the
-bytes that it is read from, which a case says besides."""
+Nothing here comes from a run of the lexer: the state after an item is reckoned from the position where the item ends, and the bytes that
+it is read from are reckoned from that and from the state before it; a case says them besides, and is refused where it says others."""
 import json
 import pathlib
 import re
@@ -130,7 +130,7 @@ def take_numbers(case, word, numbers):
 
 
 def take_item(case, span, numbers):
-    """A line of an item: where its bytes begin and end, and some of its other numbers; False where there are more or fewer."""
+    """A line of an item: where its bytes begin and end, and 6 to 16 of its other numbers; False for any other line."""
     ends, others = span.split("-"), RECORD - 2
     if len(ends) != 2 or not 6 <= len(numbers) <= others:
         return False
@@ -337,8 +337,8 @@ def state_after(case, item, walk, before):
 
 
 def reckon(case):
-    """Gives each item of a case that isn't refused its bytes and the state after it, and the case the places of what is passed between
-    items."""
+    """Gives each item of a case that isn't refused where it begins and ends and the state after it, and the case the places of what is passed
+    between items. Raises Wrong where the case says other bytes or another last state."""
     state = case.first_state()
     for number, item in enumerate(case.items, 1):
         words, walk = item.words, Walk(case, state)
@@ -354,7 +354,8 @@ def reckon(case):
         item.end = walk.at
         span = [item.end if item.is_last() else item.begin, item.end]
         if item.span() != span:
-            raise case.wrong("item %d is read from byte %d up to byte %d, and not from byte %d up to byte %d" % (number, *span, *item.span()))
+            numbers = (number, *span, *item.span())
+            raise case.wrong("item %d is read from byte %d up to byte %d, and not from byte %d up to byte %d" % numbers)
         state = item.after = state_after(case, item, walk, state)
     if case.after not in (None, state):
         raise case.wrong("the state after its last item is %s" % state)

@@ -146,7 +146,7 @@ fn main() {
         return;
     }
     say(last.items);
-    // Both buffers are longer.
+    // Both buffers have more than 1,048,576.
     let k = (last.items % 1048576) as usize;
     say(wide_number(records[k]));
     say(wide_byte(payload[k]));

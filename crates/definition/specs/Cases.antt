@@ -49,7 +49,7 @@ character l₁ c₁ l₂ c₂ code = item 1 (kind "CHAR") l₁ c₁ l₂ c₂ 0 
 
 -- an error at 1:0 with a range from there to the column given: its number and its payload
 abbrev pub error : ℕ → ℕ → String → Listed-item
-error number to payload = item 1 (kind "ERROR") 1 0 1 0 (length (cps payload)) 0 (3 ∷ number ∷ 1 ∷ 0 ∷ 1 ∷ to ∷ 0 ∷ []) 0 0 payload
+error number col payload = item 1 (kind "ERROR") 1 0 1 0 (length (cps payload)) 0 (3 ∷ number ∷ 1 ∷ 0 ∷ 1 ∷ col ∷ 0 ∷ []) 0 0 payload
 
 -- an error on a first line of ASCII that is empty, as its range is: its number and its column
 abbrev pub error-at : ℕ → ℕ → Listed-item

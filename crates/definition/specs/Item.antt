@@ -21,8 +21,8 @@ pub record Step : Type 0 where
 
 -- ---- tokens, errors and comments
 
--- an item whose payload (of a blob: whose name) has n bytes; next is the state after it. Document 02: "16 and 17 are the start and end offset
--- of the bytes the item was read from": they begin at byte `from`, and end where the state after it stands
+-- an item whose payload (of a blob: whose name) has n bytes; next is the state after it. Document 02: "16 and 17 are the start and end
+-- offset of the bytes the item was read from": they begin at byte `from`, and end where the state after it stands
 abbrev pub item-of : ℕ → ℕ → ℕ → Pos → Pos → Extra → State → Item
 item-of k n from sp ep extra next = record {
   kind = k;

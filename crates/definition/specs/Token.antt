@@ -138,8 +138,8 @@ bad-number s st e = done (lex-error s st 5 (lexeme s (st .offset) e) (cur-pos s 
 abbrev pub comment-start : Bytes → State → ℕ → Token-turn
 comment-start s st e = done (comment s (st .offset) (open-comment (advance st e) (cur-pos s st)))
 
--- `RGt`: "sedlex restarts the match after the '>', so the token starts there", and its position is one later. Document 02: "A `>` token
--- starts at its `>`"
+-- `RGt`: "sedlex restarts the match after the '>', so the token starts there", by its position. By its bytes it doesn't: document 02 has
+-- "A `>` token starts at its `>`"
 abbrev pub gt : Bytes → State → ℕ → Token-turn
 gt s st e =
     let i = st .offset in

@@ -165,7 +165,7 @@ module _ {s name : Bytes} {U : Type 0} {st : State} where
         less = omega (arith, g .less, o .past, o .within);
         opened = λ _. g .opened (λ _. omega arith);
       }
-  form-gives w (error {a} n text from to p b u) =
+  form-gives w (error {a} n text p1 p2 p b u) =
       let r = path-reads p in
       record { clean = r .ahead .clean; within = r .ahead .within; less = omega (arith, r .fewer); opened = λ _ m. absurd (omega arith) }
 
@@ -175,7 +175,7 @@ module _ {s name : Bytes} {U : Type 0} {st : State} where
   form-measured (blob k title contents sp ep pos snap p l b) = record { size = λ used. sym (length-append title contents) }
   form-measured (line text sp ep o b) = comment-measured text sp ep true _
   form-measured (opened o p) = piece-measured (omega arith) p
-  form-measured (error n text from to p b u) = record { size = λ used. add-zero (length text) }
+  form-measured (error n text p1 p2 p b u) = record { size = λ used. add-zero (length text) }
 
   -- an error of number 6 says U
   pub form-number : {t : Step} → Form s name U st t → error-number (t .item .extra) ≡ 6 → U
@@ -185,7 +185,7 @@ module _ {s name : Bytes} {U : Type 0} {st : State} where
   form-number (line text sp ep o b) q = absurd (omega arith)
   form-number (opened o p) q =
       let z : error-number (Comment (p .closed)) ≡ 6 = subst (λ (x : Step). error-number (x .item .extra) ≡ 6) (p .is) q in absurd (omega arith)
-  form-number (error n text from to p b u) q = u q
+  form-number (error n text p1 p2 p b u) q = u q
 
   module _ (m : st .mode ≡ 0) where
     pub form-last : {t : Step} → Form s name U st t → ErrorIfLast t
@@ -193,14 +193,14 @@ module _ {s name : Bytes} {U : Type 0} {st : State} where
     form-last (blob k title contents sp ep pos snap p l b) q = let r = path-reads p in absurd (omega (arith, r .mode))
     form-last (line text sp ep o b) q = absurd (omega arith)
     form-last (opened o p) q = absurd (piece-goes-on (omega arith) p q)
-    form-last (error n text from to p b u) q = refl
+    form-last (error n text p1 p2 p b u) q = refl
 
     pub form-sound : {t : Step} → Form s name U st t → Stands s st → Stands s (t .next)
     form-sound (token k text sp ep x p l b) h = path-stands p h
     form-sound (blob k title contents sp ep pos snap p l b) h = path-stands p h
     form-sound (line text sp ep o b) h = one-more-stands (walk-stands h (o .walk)) (omega (arith, h .sound .comments, o .past))
     form-sound (opened o p) h = piece-sound p (open-stands h m o) refl
-    form-sound (error n text from to p b u) h = ended-stands (path-stands p h) (path-reads p .mode ∙ m)
+    form-sound (error n text p1 p2 p b u) h = ended-stands (path-stands p h) (path-reads p .mode ∙ m)
 
   pub form-bounded : {t : Step} → Form s name U st t → Stands s st → length name ≤ 4096 → length (t .payload) + budget s (t .next) ≤ most s st
   unfolding budget
@@ -211,7 +211,7 @@ module _ {s name : Bytes} {U : Type 0} {st : State} where
       omega (arith, length-append title contents, path-reads p .spent (stands-within h), budget-most s a)
   form-bounded (line {j} text sp ep o b) h n = omega (arith, o .within, o .past, budget-most s (one-more-comment (advance st j)))
   form-bounded (opened o p) h n = omega (arith, piece-bounded (omega arith) p (o .within), o .past, o .within)
-  form-bounded (error {a} n′ text from to p b u) h n = omega (arith, path-reads p .spent (stands-within h))
+  form-bounded (error {a} n′ text p1 p2 p b u) h n = omega (arith, path-reads p .spent (stands-within h))
 
   pub form-short : {t : Step} → Form s name U st t → Stands s st → length name ≤ 50 → length (t .payload) ≤ longest-payload s
   form-short (token k text sp ep x p l b) h n =
@@ -221,7 +221,7 @@ module _ {s name : Bytes} {U : Type 0} {st : State} where
       omega (arith, length-append title contents, path-reads p .ahead .within (stands-within h))
   form-short (line text sp ep o b) h n = omega (arith, o .within)
   form-short (opened o p) h n = omega (arith, piece-short (omega arith) p (o .within))
-  form-short (error n′ text from to p b u) h n = omega arith
+  form-short (error n′ text p1 p2 p b u) h n = omega arith
 
   -- Every form keeps all of it.
   pub form-kept : {t : Step} → (Stands s st → st .mode ≡ 0) → st .offset ≤ length s → Form s name U st t → Kept s name st t

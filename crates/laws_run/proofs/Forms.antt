@@ -56,8 +56,8 @@ pub data Form (s name : Bytes) (U : Type 0) (st : State) : Step → Type 0 where
   line : {j : ℕ} (text : Bytes) (sp ep : Pos) → Onward s (st .offset) j → length text ≤ j - st .offset
       → Form s name U st (add-comment text (st .offset) sp ep true (one-more-comment (advance st j)))
   opened : {e : ℕ} {t : Step} → Onward s (st .offset) e → Piece s (st .offset) (open-comment (advance st e) (cur-pos s st)) t → Form s name U st t
-  error : {a : State} (n : ℕ) (text : Bytes) (from to : Pos) → Path s st a → length text ≤ length s - a .offset → (n ≡ 6 → U)
-      → Form s name U st (lex-error s a n text from to)
+  error : {a : State} (n : ℕ) (text : Bytes) (p1 p2 : Pos) → Path s st a → length text ≤ length s - a .offset → (n ≡ 6 → U)
+      → Form s name U st (lex-error s a n text p1 p2)
 
 -- ---- what is kept
 

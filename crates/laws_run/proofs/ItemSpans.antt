@@ -1,14 +1,15 @@
 -- Document 02, K3: "16 and 17 are the start and end offset of the bytes the item was read from". Every item ends where the state after it
 -- stands; one that is no ERROR starts where its choice was made, or, in a comment, where the state before it stands; and an ERROR is empty.
--- These hold in every text and from every state. Rests on the walk over the rules (Rules, Steps) and on pieces of comments (CommentReader).
-use Prim.Native.Nat.{ℕ}
+-- An item is what a step gives; these hold of a step from any state of any text. Rests on the walk over the rules (Rules, Steps) and on
+-- pieces of comments (CommentReader).
+use Prim.Native.Nat.{ℕ, _<_}
 use mathlib.Core.Path.{_≡_, refl, sym, ap, subst, _∙_}
 use mathlib.Core.List.{List, [], _∷_, _++_}
 use native.Mathlib.Omega.{arith}
 use lib.Dec.{eqb}
 use lib.ListN.{length, getD}
-use borrow.Author.Tests.{eq-eqb, eqb-true}
-use Rattle.definition.specs.Basics.{Bytes, done, fuel}
+use borrow.Author.Tests.{eq-eqb, eqb-true, eqb-false}
+use Rattle.definition.specs.Basics.{Bytes, Turn, again, done, fuel}
 use Rattle.definition.specs.Kinds.{kind}
 use Rattle.definition.specs.Item.{Step, error-here, extra-words, words}
 use Rattle.definition.specs.Select.{select}
@@ -17,11 +18,12 @@ use Rattle.definition.specs.declared.State.{State}
 use Rattle.definition.specs.declared.Item.{Item}
 use Rattle.definition.specs.declared.Extra.{Extra}
 use Rattle.definition.specs.declared.Extra.the-variants.{NoExtra, CharLit, Blob, LexError, Comment}
-use Rattle.lemmas.proofs.Loops.{Leads, leads-map, Any, loop-keeps}
-use Rattle.lemmas.proofs.Cases.{by-test, by-le}
-use Rattle.laws_run.proofs.Forms.{nothing, code-point, Piece, Form, token, blob, line, opened, error as an-error}
+use Rattle.lemmas.proofs.Loops.{Leads, leads-map, Falls, Any, loop-gives}
+use Rattle.lemmas.proofs.Cases.{by-test, by-outcome, by-le}
+use Rattle.laws_progress.proofs.Walks.{rest}
+use Rattle.laws_run.proofs.Forms.{nothing, code-point, Piece, Form, token, blob, line, opened, error}
 use Rattle.laws_run.proofs.CommentReader.{comment-piece}
-use Rattle.laws_run.proofs.Steps.{act-says}
+use Rattle.laws_run.proofs.Steps.{act-says, token-falls}
 
 -- ---- words 16 and 17 of a record
 
@@ -49,11 +51,11 @@ IsError (Blob n p q) = ⊥
 IsError (LexError n p1 p2) = Unit {0}
 IsError (Comment b) = ⊥
 
--- it ends where the state after it stands; if it is no ERROR it starts at st, and an ERROR, which has that kind, is empty
+-- it ends where the state after it stands; if it is no ERROR it starts at st; and an ERROR is empty, and has that kind
 record Span (st : State) (t : Step) : Type 0 where
   to : t .item .to ≡ t .next .offset
   from : (IsError (t .item .extra) → ⊥) → t .item .from ≡ st .offset
-  error : IsError (t .item .extra) → (t .item .kind ≡ kind "ERROR") × (t .item .from ≡ t .item .to)
+  empty : IsError (t .item .extra) → (t .item .from ≡ t .item .to) × (t .item .kind ≡ kind "ERROR")
 
 -- a piece of a comment that began at byte `from`
 piece-from : {s : Bytes} {from : ℕ} {st : State} {t : Step} → Piece s from st t → t .item .from ≡ from
@@ -64,58 +66,92 @@ piece-to p = subst (λ (x : Step). x .item .to ≡ x .next .offset) (sym (p .is)
 
 -- every form
 form-span : {s name : Bytes} {U : Type 0} {st : State} {t : Step} → Form s name U st t → Span st t
-form-span (token k text sp ep nothing p l b) = record { to = refl; from = λ _. refl; error = λ e. absurd e }
-form-span (token k text sp ep (code-point c) p l b) = record { to = refl; from = λ _. refl; error = λ e. absurd e }
-form-span (blob k title contents sp ep pos snap p l b) = record { to = refl; from = λ _. refl; error = λ e. absurd e }
-form-span (line text sp ep o b) = record { to = refl; from = λ _. refl; error = λ e. absurd e }
+form-span (token k text sp ep nothing p l b) = record { to = refl; from = λ _. refl; empty = λ e. absurd e }
+form-span (token k text sp ep (code-point c) p l b) = record { to = refl; from = λ _. refl; empty = λ e. absurd e }
+form-span (blob k title contents sp ep pos snap p l b) = record { to = refl; from = λ _. refl; empty = λ e. absurd e }
+form-span (line text sp ep o b) = record { to = refl; from = λ _. refl; empty = λ e. absurd e }
 form-span (opened o p) = record {
   to = piece-to p;
   from = λ _. piece-from p;
-  error = λ e. absurd (subst (λ (x : Step). IsError (x .item .extra)) (p .is) e);
+  empty = λ e. absurd (subst (λ (x : Step). IsError (x .item .extra)) (p .is) e);
 }
-form-span (an-error n text p1 p2 p b u) = record { to = refl; from = λ n. absurd (n tt); error = λ _. (refl, refl) }
+form-span (error n text p1 p2 p b u) = record { to = refl; from = λ plain. absurd (plain tt); empty = λ _. (refl, refl) }
 
 module _ (s name f : Bytes) where
   -- what a turn gives; at the text's end there is no choice, and EOF is empty there
   turn-span : (st : State) → Leads Any (Span st) (token-turn s name f st)
   unfolding token-turn
   turn-span st =
-      by-le (Leads Any (Span st)) (length s) (st .offset) (λ _. record { to = refl; from = λ _. refl; error = λ e. absurd e })
+      by-le (Leads Any (Span st)) (length s) (st .offset) (λ _. record { to = refl; from = λ _. refl; empty = λ e. absurd e })
       (λ l. leads-map (λ b g. tt) (λ t v. form-span v) (act s name f st (select s f (st .offset))) (act-says s name f st (omega arith)))
 
-  -- what a step gives
-  step-to : (st : State) → step s name f st .item .to ≡ step s name f st .next .offset
+  -- ---- where the choice was made
+
+  -- from st one comes to a state by what is skipped
+  pub data Skipped (st : State) : State → Type 0 where
+    nothing-yet : Skipped st st
+    and-then : {a b : State} → Skipped st a → token-turn s name f a ≡ again b → Skipped st b
+
+  -- t is given there: at a choice or, for EOF, where the text has ended
+  pub record Chosen (st : State) (t : Step) : Type 0 where
+    pub at : State
+    pub skipped : Skipped st at
+    pub gives : token-turn s name f at ≡ done t
+
+  -- each turn skips something, or gives the item
+  chosen-falls : (st : State) → Falls (token-turn s name f) (Skipped st) (λ a. rest s (a .offset)) (Chosen st)
+  chosen-falls st = record { at = λ a p. go a p (token-turn s name f a) refl (token-falls s name f .at a tt) }
+    where
+      go : (a : State) → Skipped st a → (t : Turn State Step) → token-turn s name f a ≡ t → Leads (λ b. Any b × (rest s (b .offset) < rest s (a .offset))) Any t
+          → Leads (λ b. Skipped st b × (rest s (b .offset) < rest s (a .offset))) (Chosen st) t
+      go a p (again b) e l = (and-then p e, l .1)
+      go a p (done t) e l = record { at = a; skipped = p; gives = e }
+
+  -- outside a comment every item is given so
+  pub item-chosen : (st : State) → (st .mode ≡ 1 → ⊥) → Chosen st (step s name f st)
   unfolding step next-token
-  step-to st =
-      by-test (λ (t : Step). t .item .to ≡ t .next .offset) (eqb (st .mode) 1)
-      (λ t. piece-to (comment-piece s (st .offset) st (omega arith) (eqb-true (st .mode) 1 t)))
-      (λ _. loop-keeps (token-turn s name f) Any (λ (t : Step). t .item .to ≡ t .next .offset) (λ a. error-here s a 6)
-      (λ a _. leads-map (λ b g. g) (λ t v. v .to) (token-turn s name f a) (turn-span a)) (λ a _. refl) (fuel s) st tt)
+  item-chosen st n =
+      by-test (Chosen st) (eqb (st .mode) 1) (λ t. absurd (n (eqb-true (st .mode) 1 t)))
+      (λ _. loop-gives (chosen-falls st) (λ a. error-here s a 6) (fuel s) st nothing-yet (omega arith))
 
-  -- what it gives in a comment
-  carried-from : (st : State) → st .mode ≡ 1 → step s name f st .item .from ≡ st .offset
-  unfolding step
-  carried-from st m = rw (eq-eqb (st .mode) 1 m, step) (piece-from (comment-piece s (st .offset) st (omega arith) m))
+  module _ (st : State) where
+    -- the item
+    abbrev t : Step
+    t = step s name f st
 
-  -- ---- the laws, over the numbers of a record
+    -- its span, if it is given outside a comment
+    chosen-span : (n : st .mode ≡ 1 → ⊥) → Span (item-chosen st n .at) (step s name f st)
+    chosen-span n = subst (Leads Any (Span (item-chosen st n .at))) (item-chosen st n .gives) (turn-span (item-chosen st n .at))
 
-  -- Word 17 is the offset of the state after the item, for every item.
-  pub span-end : (st : State) (used : ℕ) → getD (words (step s name f st .item) used) 17 0 ≡ step s name f st .next .offset
-  span-end st used = last-words (step s name f st .item) used .1 ∙ step-to st
+    -- in a comment it is a piece
+    carried-piece : st .mode ≡ 1 → Piece s (st .offset) st (step s name f st)
+    unfolding step
+    carried-piece m = rw (eq-eqb (st .mode) 1 m, step) (comment-piece s (st .offset) st (omega arith) m)
 
-  module _ (st : State) (t : Step) (used : ℕ) (e : token-turn s name f st ≡ done t) where
-    gives : Span st t
-    gives = subst (Leads Any (Span st)) e (turn-span st)
+    -- what both say
+    either-way : (P : Step → Type 0) → ((n : st .mode ≡ 1 → ⊥) → P t) → (st .mode ≡ 1 → P t) → P t
+    either-way P outside inside = by-outcome (eqb (st .mode) 1) (λ e. inside (eqb-true (st .mode) 1 e)) (λ e. outside (eqb-false (st .mode) 1 e))
 
-    -- Word 16 is the offset of the choice, for every item that is no ERROR. (EOF comes from no choice: its word 16 is the text's end.)
-    pub span-start : (IsError (t .item .extra) → ⊥) → getD (words (t .item) used) 16 0 ≡ st .offset
-    span-start n = last-words (t .item) used .0 ∙ gives .from n
+    -- ---- the laws, over the numbers of the item's record
 
-    -- An ERROR is empty, and has that kind.
-    pub span-of-error : IsError (t .item .extra)
-        → (getD (words (t .item) used) 16 0 ≡ getD (words (t .item) used) 17 0) × (t .item .kind ≡ kind "ERROR")
-    span-of-error e = (last-words (t .item) used .0 ∙ gives .error e .1 ∙ sym (last-words (t .item) used .1), gives .error e .0)
+    module _ (used : ℕ) where
+      -- Word 17 is the offset of the state after the item.
+      pub span-end : getD (words (step s name f st .item) used) 17 0 ≡ step s name f st .next .offset
+      span-end = last-words (t .item) used .1 ∙ either-way (λ (x : Step). x .item .to ≡ x .next .offset) (λ n. chosen-span n .to) (λ m. piece-to (carried-piece m))
 
-  -- In mode 1 word 16 is the offset of the state before the item: "A comment's later piece starts where the last ended".
-  pub span-carried : (st : State) (used : ℕ) → st .mode ≡ 1 → getD (words (step s name f st .item) used) 16 0 ≡ st .offset
-  span-carried st used m = last-words (step s name f st .item) used .0 ∙ carried-from st m
+      -- Word 16 is the offset of the choice, if the item is no ERROR. (EOF comes from no choice: it is given where the text has ended.)
+      pub span-start : (n : st .mode ≡ 1 → ⊥) → (IsError (step s name f st .item .extra) → ⊥)
+          → getD (words (step s name f st .item) used) 16 0 ≡ item-chosen st n .at .offset
+      span-start n plain = last-words (t .item) used .0 ∙ chosen-span n .from plain
+
+      -- In mode 1 it is the offset of the state before: "A comment's later piece starts where the last ended".
+      pub span-carried : st .mode ≡ 1 → getD (words (step s name f st .item) used) 16 0 ≡ st .offset
+      span-carried m = last-words (t .item) used .0 ∙ piece-from (carried-piece m)
+
+      -- An ERROR is empty, and has that kind: so an item of another kind is none.
+      pub span-of-error : IsError (step s name f st .item .extra)
+          → (getD (words (step s name f st .item) used) 16 0 ≡ getD (words (step s name f st .item) used) 17 0) × (step s name f st .item .kind ≡ kind "ERROR")
+      span-of-error e =
+          let h = either-way (λ (x : Step). IsError (x .item .extra) → (x .item .from ≡ x .item .to) × (x .item .kind ≡ kind "ERROR"))
+          (λ n. chosen-span n .empty) (λ m y. absurd (subst (λ (x : Step). IsError (x .item .extra)) (carried-piece m .is) y)) e in
+          (last-words (t .item) used .0 ∙ h .0 ∙ sym (last-words (t .item) used .1), h .1)

@@ -110,8 +110,8 @@ module _ (s name : Bytes) (U : Type 0) (st : State) where
         go none q = part-up-to (kind k) i e (omega arith) (omega arith)
 
     -- an error at st without a payload
-    error-says : (n : ℕ) {from to : Pos} → (n ≡ 6 → ⊥) → Form s name U st (lex-error s st n [] from to)
-    error-says n {from} {to} u = error {a = st} n [] from to stay (omega arith) (λ q. absurd (u q))
+    error-says : (n : ℕ) {p1 p2 : Pos} → (n ≡ 6 → ⊥) → Form s name U st (lex-error s st n [] p1 p2)
+    error-says n {p1} {p2} u = error {a = st} n [] p1 p2 stay (omega arith) (λ q. absurd (u q))
 
     -- an identifier, unless its prefix is reserved
     ident-says : Says s name U st (ident s st e)

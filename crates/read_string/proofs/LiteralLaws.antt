@@ -75,7 +75,7 @@ module _ (s f : Bytes) where
       (subst (λ (t : Turn (State × Bytes) Step). Both Alike Equal t (does s 0 no-pos (b .0) (b .1) (string-move s f (a .0 .offset))))
       (sym (turn-does s f 0 no-pos (a .0) (a .1))) u)
 
-  -- the payload depends on the offset alone
+  -- the payload is the same from any state at that byte
   same-payload : (st st′ : State) (acc : Bytes) → st .offset ≡ st′ .offset
       → string-from s f 0 no-pos (st, acc) .payload ≡ string-from s f 0 no-pos (st′, acc) .payload
   unfolding string-from

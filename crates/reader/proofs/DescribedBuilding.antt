@@ -22,7 +22,7 @@ use Rattle.reader.specs.Described.{length-of, Describes, Known-at, Reads
 use Rattle.reader.specs.Standing.{Standing}
 use Rattle.reader.proofs.Standing.{known-asked, known-kept}
 
--- a token of n bytes of payload
+-- a token whose payload has n bytes
 pub token-reads : (s name f bytes : Bytes) (k : ℕ) (p : Payload) (from : ℕ) (sp ep : Pos) (extra : Extra) (next : State) (known : Cache) (n : ℕ)
     → n ≡ length-of name p → Describes s name f p bytes → Known-at s next known
     → Reads s name f (tok k bytes from sp ep extra next) (record { item = item-of k n from sp ep extra next; payload = p; next = next; known = known })
@@ -34,11 +34,11 @@ token-reads s name f bytes k p from sp ep extra next known n e d q = record {
 }
 
 -- an error's token stands where the state does
-pub error-reads : {s name f bytes : Bytes} {st : State} {known : Cache} {number : ℕ} {from to : Pos} {r : Read} (here : Located) (next : State)
+pub error-reads : {s name f bytes : Bytes} {st : State} {known : Cache} {number : ℕ} {p1 p2 : Pos} {r : Read} (here : Located) (next : State)
     → Standing s st known → here ≡ located s st (st .offset) → next ≡ ended st
-    → (Known-at s next (here .known) → Reads s name f (tok (kind "ERROR") bytes (st .offset) (here .pos) (here .pos) (LexError number from to) next) r)
-    → Reads s name f (lex-error s st number bytes from to) r
-error-reads {s} {name} {f} {bytes} {st} {known} {number} {from} {to} {r} here next h e q build =
+    → (Known-at s next (here .known) → Reads s name f (tok (kind "ERROR") bytes (st .offset) (here .pos) (here .pos) (LexError number p1 p2) next) r)
+    → Reads s name f (lex-error s st number bytes p1 p2) r
+error-reads {s} {name} {f} {bytes} {st} {known} {number} {p1} {p2} {r} here next h e q build =
     let known : Known-at s (ended st) (located s st (st .offset) .known) =
     known-kept st (ended st) refl refl (known-asked h (st .offset) (h .stands .sound .order)) in
     let built = rw (e, q) at build in

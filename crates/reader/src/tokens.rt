@@ -9,7 +9,6 @@ use definition::State;
 use definition::kinds::ERROR;
 use position::Cache;
 use position::pos_of;
-ghost use mathlib.Core.Path.{_≡_};
 ghost use mathlib.Core.List.{[]};
 ghost use Rattle.definition.specs.Basics.{Bytes};
 ghost use Rattle.definition.specs.Position.{cur-pos};

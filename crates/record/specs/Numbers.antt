@@ -1,5 +1,5 @@
--- A record's eighteen numbers in the order of the code: word 0 and words 9 to 14 as a struct, word 15, which is 0, and the bytes that the
--- item was read from. And the item that is a token without more.
+-- A record's eighteen numbers in the order of the code: word 0 and words 9 to 14 as a struct, word 15, which is 0, and words 16 and 17.
+-- And the item that is a token without more.
 use Prim.Native.Nat.{ℕ}
 use mathlib.Core.List.{List, [], _∷_}
 use Rattle.definition.specs.Item.{mark}

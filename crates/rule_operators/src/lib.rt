@@ -44,7 +44,7 @@ pub fn kw_op(text: &[u8], at: Cursor, e: usize, word: usize) -> Action
     }
 }
 
-// `>` and symbol characters: the token's position is after the `>`, which its bytes and its text have.
+// `>` and symbol characters: the token's position is after the `>`, with which its bytes and its text begin.
 pub fn gt(text: &[u8], at: Cursor, e: usize) -> Action
     requires { ⌜ Chose (now text) at e ⌝ }
     ensures { λ r. ⌜ ((name : Bytes) → Rules (now (text .entry)) name at e (gt (now (text .entry)) (at .st) e) r) ⌝ }
