@@ -15,6 +15,7 @@ import re
 DATA = pathlib.Path(__file__).resolve().parent.parent / "crates" / "cases" / "data"
 RECORD = 18
 STATE = 9
+ENDED = 2
 EOF, ERROR, STRING, BLOB, USE_LANG_BLOB = 165, 173, 148, 149, 150
 LAST_KIND = 173
 LAST_ERROR = 7
@@ -56,7 +57,7 @@ class Case:
         self.text, self.file_name, self.classes = b"", b"stdin", NO_RANGES
         self.start = None
         self.given = None
-        self.lent = None
+        self.lent, self.repeated = None, True
         self.class_check, self.refusal, self.offset, self.stop = 0, 0, 0, 0
         self.items = []
         self.after = None
@@ -74,8 +75,8 @@ class Case:
         return self.given or self.start_state()
 
     def is_split(self):
-        """Whether its text is run in parts too: where the case neither is refused nor names its buffers."""
-        return not self.refusal and self.lent is None
+        """Whether its items are run one by one too: where the case neither is refused nor, in the readable form, names its buffers."""
+        return not self.refusal and self.repeated
 
 
 def size_of(words):
@@ -115,7 +116,7 @@ def take_numbers(case, word, numbers):
     elif word == "from":
         case.given = numbers
     elif word == "buffers":
-        case.lent = tuple(numbers)
+        case.lent, case.repeated = tuple(numbers), False
     elif word == "class-check":
         case.class_check, = numbers
     elif word == "refused":
@@ -332,7 +333,7 @@ def state_after(case, item, walk, before):
         if depth:
             mode, start = 1, words[2:4]
     elif item.is_last():
-        mode = 2
+        mode = ENDED
     return [walk.at, walk.line, walk.bol, walk.column, words[8], mode, depth] + start
 
 
