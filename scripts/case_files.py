@@ -7,7 +7,7 @@ its eighteen numbers (word 6 being 0) and its payload in hexadecimal. runs.jsonl
 `after` (the state handed back), `items` with word 6.
 
 Nothing here comes from a run of the lexer: the state after an item is reckoned from the position where the item ends, and the bytes that
-it is read from are reckoned from that and from the state before it; a case says them besides, and is refused where it says others."""
+it is read from are reckoned from that and from the state before it; a case says them besides, and is Wrong where it says others."""
 import json
 import pathlib
 import re
@@ -338,8 +338,8 @@ def state_after(case, item, walk, before):
 
 
 def reckon(case):
-    """Gives each item of a case that isn't refused where it begins and ends and the state after it, and the case the places of what is passed
-    between items. Raises Wrong where the case says other bytes or another last state."""
+    """Gives each item of a case that isn't refused where it begins and ends and the state after it, and the case the places of what is
+    passed between items. Raises Wrong where the case says an end that the text doesn't come to, other bytes or another last state."""
     state = case.first_state()
     for number, item in enumerate(case.items, 1):
         words, walk = item.words, Walk(case, state)
