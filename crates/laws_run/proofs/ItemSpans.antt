@@ -1,5 +1,6 @@
 -- Document 02, K3: "16 and 17 are the start and end offset of the bytes the item was read from". Every item ends where the state after it
--- stands; one that is no ERROR starts where its choice was made, or, in a comment, where the state before it stands; and an ERROR is empty.
+-- stands; one that is no ERROR starts where its choice was made (EOF: where the text has ended), or, in a comment, where the state before it
+-- stands; and an ERROR is empty.
 -- An item is what a step gives; these hold of a step from any state of any text. Rests on the walk over the rules (Rules, Steps) and on
 -- pieces of comments (CommentReader).
 use Prim.Native.Nat.{ℕ, _<_}
@@ -119,30 +120,31 @@ module _ (s name f : Bytes) where
     abbrev t : Step
     t = step s name f st
 
-    -- its span, if it is given outside a comment
-    chosen-span : (n : st .mode ≡ 1 → ⊥) → Span (item-chosen st n .at) (step s name f st)
-    chosen-span n = subst (Leads Any (Span (item-chosen st n .at))) (item-chosen st n .gives) (turn-span (item-chosen st n .at))
+    -- its span, where it is given at a choice
+    chosen-span : (c : Chosen st t) → Span (c .at) t
+    chosen-span c = subst (Leads Any (Span (c .at))) (c .gives) (turn-span (c .at))
 
     -- in a comment it is a piece
-    carried-piece : st .mode ≡ 1 → Piece s (st .offset) st (step s name f st)
+    carried-piece : st .mode ≡ 1 → Piece s (st .offset) st t
     unfolding step
     carried-piece m = rw (eq-eqb (st .mode) 1 m, step) (comment-piece s (st .offset) st (omega arith) m)
 
-    -- what both say
-    either-way : (P : Step → Type 0) → ((n : st .mode ≡ 1 → ⊥) → P t) → (st .mode ≡ 1 → P t) → P t
-    either-way P outside inside = by-outcome (eqb (st .mode) 1) (λ e. inside (eqb-true (st .mode) 1 e)) (λ e. outside (eqb-false (st .mode) 1 e))
+    -- what holds outside a comment and in one
+    either-way : (P : Step → Type 0) → (Chosen st t → P t) → (st .mode ≡ 1 → P t) → P t
+    either-way P outside inside =
+        by-outcome (eqb (st .mode) 1) (λ e. inside (eqb-true (st .mode) 1 e)) (λ e. outside (item-chosen st (eqb-false (st .mode) 1 e)))
 
     -- ---- the laws, over the numbers of the item's record
 
     module _ (used : ℕ) where
       -- Word 17 is the offset of the state after the item.
       pub span-end : getD (words (step s name f st .item) used) 17 0 ≡ step s name f st .next .offset
-      span-end = last-words (t .item) used .1 ∙ either-way (λ (x : Step). x .item .to ≡ x .next .offset) (λ n. chosen-span n .to) (λ m. piece-to (carried-piece m))
+      span-end = last-words (t .item) used .1 ∙ either-way (λ (x : Step). x .item .to ≡ x .next .offset) (λ c. chosen-span c .to) (λ m. piece-to (carried-piece m))
 
       -- Word 16 is the offset of the choice, if the item is no ERROR. (EOF comes from no choice: it is given where the text has ended.)
-      pub span-start : (n : st .mode ≡ 1 → ⊥) → (IsError (step s name f st .item .extra) → ⊥)
-          → getD (words (step s name f st .item) used) 16 0 ≡ item-chosen st n .at .offset
-      span-start n plain = last-words (t .item) used .0 ∙ chosen-span n .from plain
+      pub span-start : (c : Chosen st (step s name f st)) → (IsError (step s name f st .item .extra) → ⊥)
+          → getD (words (step s name f st .item) used) 16 0 ≡ c .at .offset
+      span-start c plain = last-words (t .item) used .0 ∙ chosen-span c .from plain
 
       -- In mode 1 it is the offset of the state before: "A comment's later piece starts where the last ended".
       pub span-carried : st .mode ≡ 1 → getD (words (step s name f st .item) used) 16 0 ≡ st .offset
@@ -153,5 +155,5 @@ module _ (s name f : Bytes) where
           → (getD (words (step s name f st .item) used) 16 0 ≡ getD (words (step s name f st .item) used) 17 0) × (step s name f st .item .kind ≡ kind "ERROR")
       span-of-error e =
           let h = either-way (λ (x : Step). IsError (x .item .extra) → (x .item .from ≡ x .item .to) × (x .item .kind ≡ kind "ERROR"))
-          (λ n. chosen-span n .empty) (λ m y. absurd (subst (λ (x : Step). IsError (x .item .extra)) (carried-piece m .is) y)) e in
+          (λ c. chosen-span c .empty) (λ m y. absurd (subst (λ (x : Step). IsError (x .item .extra)) (carried-piece m .is) y)) e in
           (last-words (t .item) used .0 ∙ h .0 ∙ sym (last-words (t .item) used .1), h .1)
