@@ -6,17 +6,16 @@ use mathlib.Core.Bool.{Bool}
 use mathlib.Core.List.{List, []}
 use native.Mathlib.Omega.{arith}
 use lib.ListN.{length}
-use borrow.Author.Tests.{eq-eqb, ne-eqb}
 use Rattle.definition.specs.Basics.{Bytes}
 use Rattle.definition.specs.ClassFile.{class-check}
-use Rattle.definition.specs.Comment.{comment}
 use Rattle.definition.specs.Item.{record-size}
-use Rattle.definition.specs.Token.{next-token, step}
+use Rattle.definition.specs.Token.{step}
 use Rattle.definition.specs.Run.{run-turn}
 use Rattle.definition.specs.declared.Choice.{Choice}
 use Rattle.definition.specs.declared.State.{State}
 use Rattle.laws_run.specs.Left.{left}
 use Rattle.laws_run.specs.Going.{run-from}
+use Rattle.laws_run.proofs.Steps.{step-between, step-inside}
 use Rattle.position.specs.AsciiRuns.{Plain}
 use Rattle.position.specs.declared.columns.AsciiRun.{AsciiRun}
 use Rattle.reader.specs.Standing.{Standing}
@@ -42,15 +41,6 @@ use Rattle.fast_path.specs.declared.TokensWritten.{TokensWritten}
 use Rattle.fast_path.proofs.RanLaws.{action-ran}
 
 -- ---- what stands ahead
-
--- between comments a step is the next token, in one it is the comment's next piece
-step-between : (s name f : Bytes) (st : State) → st .mode ≡ 0 → step s name f st ≡ next-token s name f st
-unfolding step
-step-between s name f st m = rw (step, ne-eqb (st .mode) 1 (λ e. absurd (omega (arith, m, e))))
-
-step-inside : (s name f : Bytes) (st : State) → st .mode ≡ 1 → step s name f st ≡ comment s (st .offset) st
-unfolding step
-step-inside s name f st m = rw (step, eq-eqb (st .mode) 1 m)
 
 -- in a comment
 pub ahead-inside : {s name f : Bytes} {at : Cursor} → Standing s (at .st) (at .known) → (at .st .mode ≡ 0 → ⊥) → StandsAhead s name f at at InComment

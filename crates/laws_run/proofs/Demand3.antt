@@ -7,7 +7,7 @@ use mathlib.Core.Bool.{true, false}
 use native.Mathlib.Omega.{arith}
 use lib.Dec.{eqb}
 use lib.ListN.{length}
-use borrow.Author.Tests.{eqb-true}
+use borrow.Author.Tests.{eqb-true, eqb-false}
 use Rattle.definition.specs.Basics.{Bytes, Turn, again, done}
 use Rattle.definition.specs.Kinds.{kind}
 use Rattle.definition.specs.Rules.{place-rules, chosen-rule}
@@ -23,8 +23,9 @@ use Rattle.state.specs.Sound.{Stands}
 use Rattle.laws_longest.proofs.Law.{select-longest}
 use Rattle.laws_run.specs.Left.{awake}
 use Rattle.laws_run.proofs.Paths.{Goes}
-use Rattle.laws_run.proofs.FormLaws.{form-gives, form-last, form-number}
-use Rattle.laws_run.proofs.Forms.{Form, Gives, ErrorIfLast}
+use Rattle.laws_run.proofs.FormLaws.{awake-yet, form-gives, form-last, form-number}
+use Rattle.laws_run.proofs.Forms.{Form, Gives}
+use Rattle.laws_run.proofs.ItemSpans.{form-span}
 use Rattle.laws_run.proofs.Rules.{Says}
 use Rattle.laws_run.proofs.Steps.{turn-says, reached-stands}
 use Rattle.laws_run.proofs.Refusals.{run-stands}
@@ -32,15 +33,13 @@ use Rattle.laws_run.proofs.Refusals.{run-stands}
 module _ (s name f : Bytes) where
   -- an item that is no ERROR, read in mode 0 before the text's end: something is left to read less, since the reading isn't over and no
   -- level was open
-  item-moves : (st : State) (t : Step) → Stands s st → st .mode ≡ 0 → Gives s st t → ErrorIfLast t → (t .item .kind ≡ kind "ERROR" → ⊥)
+  item-moves : (st : State) (t : Step) → Stands s st → st .mode ≡ 0 → Gives s st t → (t .next .mode ≡ 2 → t .item .kind ≡ kind "ERROR") → (t .item .kind ≡ kind "ERROR" → ⊥)
       → st .offset < t .next .offset
   item-moves st t h m g last n =
       let d : st .depth ≡ 0 = h .sound .level (λ q. absurd (omega arith)) in
       by-outcome (eqb (t .next .mode) 2)
       (λ q. absurd (n (last (eqb-true (t .next .mode) 2 q))))
-      (λ q.
-      let w : awake (t .next .mode) ≡ 1 = ap (λ b. elim b as (λ _. ℕ) [ true ↦ 0 | false ↦ 1 ]) q in
-      omega (arith, g .less))
+      (λ q. omega (arith, g .less, awake-yet (t .next .mode) (eqb-false (t .next .mode) 2 q)))
 
   module _ (st : State) (l : st .offset < length s) where
     c : Choice
@@ -65,7 +64,7 @@ module _ (s name f : Bytes) where
     skips = λ next e. let v : Goes s (Unit {0}) st next = subst (Says s name (c st l .place ≡ 0) st) e (turn-says s name f st l) in omega (arith, v .moves tt);
     gives = λ t e.
         let v : Form s name (c st l .place ≡ 0) st t = subst (Says s name (c st l .place ≡ 0) st) e (turn-says s name f st l) in
-        item-moves st t h m (form-gives (omega arith) v) (form-last m v);
+        item-moves st t h m (form-gives (omega arith) v) (λ q. form-span v .empty (form-last m v q) .1);
   }
 
   -- Demand 3, over a run.

@@ -28,7 +28,7 @@ use Rattle.laws_run.specs.Split.{payload-size}
 use Rattle.laws_run.proofs.Moving.{stands-within, walk-stands, one-more-stands, closing-stands, ended-stands, open-stands}
 use Rattle.laws_run.proofs.Paths.{Path, Reads, path-reads, path-stands}
 use Rattle.laws_run.proofs.Buffers.{Measured}
-use Rattle.laws_run.proofs.Forms.{Plain, nothing, code-point, Piece, Form, token, blob, line, opened, error, Gives, Kept, ErrorIfLast}
+use Rattle.laws_run.proofs.Forms.{Plain, nothing, code-point, Piece, Form, token, blob, line, opened, error, IsError, Gives, Kept}
 
 -- ---- the budget
 
@@ -46,6 +46,10 @@ module _ (s : Bytes) where
 -- the reading is awake once
 pub awake-small : (m : ℕ) → awake m ≤ 1
 awake-small m = by-test (λ (n : ℕ). n ≤ 1) (eqb m 2) (λ _. omega arith) (λ _. omega arith)
+
+-- and until its end it is
+pub awake-yet : (m : ℕ) → (m ≡ 2 → ⊥) → awake m ≡ 1
+awake-yet m n = by-test (λ (k : ℕ). k ≡ 1) (eqb m 2) (λ t. absurd (n (eqb-true m 2 t))) (λ _. refl)
 
 -- ---- records
 
@@ -107,6 +111,13 @@ module _ {s : Bytes} {st : State} where
 
     pub piece-short : st .offset ≤ length s → length (t .payload) ≤ length s + 2
     piece-short l = subst (λ (x : Step). length (x .payload) ≤ length s + 2) (sym (p .is)) (omega (arith, p .small, r .ahead .within l))
+
+  -- leaving a level reads nothing
+  pub piece-forward : {from : ℕ} {t : Step} → Piece s from st t → st .offset ≤ t .next .offset
+  unfolding close-comment
+  piece-forward p =
+      subst (λ (x : Step). st .offset ≤ x .next .offset) (sym (p .is))
+      (let h = path-reads (p .path) .ahead .forward in by-lt (λ (b : State). st .offset ≤ b .offset) 1 (p .last .depth) (λ _. h) (λ _. h))
 
   pub piece-sound : {from : ℕ} {t : Step} → Piece s from st t → Stands s st → st .mode ≡ 1 → Stands s (t .next)
   piece-sound p h m =
@@ -188,12 +199,13 @@ module _ {s name : Bytes} {U : Type 0} {st : State} where
   form-number (error n text p1 p2 p b u) q = u q
 
   module _ (m : st .mode ≡ 0) where
-    pub form-last : {t : Step} → Form s name U st t → ErrorIfLast t
+    -- if the reading is over after it, it is an ERROR
+    pub form-last : {t : Step} → Form s name U st t → t .next .mode ≡ 2 → IsError (t .item .extra)
     form-last (token k text sp ep x p l b) q = let r = path-reads p in absurd (omega (arith, r .mode))
     form-last (blob k title contents sp ep pos snap p l b) q = let r = path-reads p in absurd (omega (arith, r .mode))
     form-last (line text sp ep o b) q = absurd (omega arith)
     form-last (opened o p) q = absurd (piece-goes-on (omega arith) p q)
-    form-last (error n text p1 p2 p b u) q = refl
+    form-last (error n text p1 p2 p b u) q = tt
 
     pub form-sound : {t : Step} → Form s name U st t → Stands s st → Stands s (t .next)
     form-sound (token k text sp ep x p l b) h = path-stands p h

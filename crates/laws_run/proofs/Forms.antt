@@ -6,14 +6,13 @@ use mathlib.Core.Bool.{Bool, true}
 use mathlib.Core.Logic.{_⊎_}
 use lib.ListN.{length}
 use Rattle.definition.specs.Basics.{Bytes}
-use Rattle.definition.specs.Kinds.{kind}
 use Rattle.definition.specs.Position.{cur-pos}
 use Rattle.definition.specs.State.{advance, one-more-comment, open-comment, close-comment}
 use Rattle.definition.specs.Item.{Step, tok, blob-tok, lex-error, add-comment}
 use Rattle.definition.specs.declared.Pos.{Pos}
 use Rattle.definition.specs.declared.State.{State}
 use Rattle.definition.specs.declared.Extra.{Extra}
-use Rattle.definition.specs.declared.Extra.the-variants.{NoExtra, CharLit}
+use Rattle.definition.specs.declared.Extra.the-variants.{NoExtra, CharLit, Blob, LexError, Comment}
 use Rattle.state.specs.Sound.{Stands}
 use Rattle.laws_progress.proofs.Walks.{Onward, Clean}
 use Rattle.laws_run.specs.Left.{level, left, Opened}
@@ -59,6 +58,14 @@ pub data Form (s name : Bytes) (U : Type 0) (st : State) : Step → Type 0 where
   error : {a : State} (n : ℕ) (text : Bytes) (p1 p2 : Pos) → Path s st a → length text ≤ length s - a .offset → (n ≡ 6 → U)
       → Form s name U st (lex-error s a n text p1 p2)
 
+-- an ERROR, by what it holds besides
+abbrev pub IsError : Extra → Type 0
+IsError NoExtra = ⊥
+IsError (CharLit c) = ⊥
+IsError (Blob n p q) = ⊥
+IsError (LexError n p1 p2) = Unit {0}
+IsError (Comment b) = ⊥
+
 -- ---- what is kept
 
 -- t is read from st on, and less is left to read
@@ -77,7 +84,3 @@ pub record Kept (s name : Bytes) (st : State) (t : Step) : Type 0 where
   pub bounded : Stands s st → length name ≤ 4096 → length (t .payload) + budget s (t .next) ≤ most s st
   pub short : Stands s st → length name ≤ 50 → length (t .payload) ≤ longest-payload s
   pub measured : Measured t
-
--- if the reading is over after it, it is an ERROR
-abbrev pub ErrorIfLast : Step → Type 0
-ErrorIfLast t = t .next .mode ≡ 2 → t .item .kind ≡ kind "ERROR"

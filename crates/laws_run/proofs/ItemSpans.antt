@@ -3,13 +3,13 @@
 -- stands; and an ERROR is empty.
 -- An item is what a step gives; these hold of a step from any state of any text. Rests on the walk over the rules (Rules, Steps) and on
 -- pieces of comments (CommentReader).
-use Prim.Native.Nat.{ℕ, _<_}
+use Prim.Native.Nat.{ℕ, _≤_, _<_}
 use mathlib.Core.Path.{_≡_, refl, sym, ap, subst, _∙_}
 use mathlib.Core.List.{List, [], _∷_, _++_}
 use native.Mathlib.Omega.{arith}
 use lib.Dec.{eqb}
 use lib.ListN.{length, getD}
-use borrow.Author.Tests.{eq-eqb, eqb-true, eqb-false}
+use borrow.Author.Tests.{eqb-true, eqb-false}
 use Rattle.definition.specs.Basics.{Bytes, Turn, again, done, fuel}
 use Rattle.definition.specs.Kinds.{kind}
 use Rattle.definition.specs.Item.{Step, error-here, extra-words, words}
@@ -22,14 +22,16 @@ use Rattle.definition.specs.declared.Extra.the-variants.{NoExtra, CharLit, Blob
 use Rattle.lemmas.proofs.Loops.{Leads, leads-map, Falls, Any, loop-gives}
 use Rattle.lemmas.proofs.Cases.{by-test, by-outcome, by-le}
 use Rattle.laws_progress.proofs.Walks.{rest}
-use Rattle.laws_run.proofs.Forms.{nothing, code-point, Piece, Form, token, blob, line, opened, error}
+use Rattle.laws_run.proofs.Paths.{path-reads}
+use Rattle.laws_run.proofs.Forms.{nothing, code-point, Piece, Form, token, blob, line, opened, error, IsError}
+use Rattle.laws_run.proofs.FormLaws.{piece-forward}
 use Rattle.laws_run.proofs.CommentReader.{comment-piece}
-use Rattle.laws_run.proofs.Steps.{act-says, token-falls}
+use Rattle.laws_run.proofs.Steps.{act-says, token-falls, step-inside}
 
 -- ---- words 16 and 17 of a record
 
 -- they are the item's `from` and `to`
-last-words : (t : Item) (used : ℕ) → (getD (words t used) 16 0 ≡ t .from) × (getD (words t used) 17 0 ≡ t .to)
+pub last-words : (t : Item) (used : ℕ) → (getD (words t used) 16 0 ≡ t .from) × (getD (words t used) 17 0 ≡ t .to)
 last-words t used = go (t .extra)
   where
     after : Extra → List ℕ
@@ -44,19 +46,19 @@ last-words t used = go (t .extra)
 
 -- ---- the span of an item that is given at st
 
--- an ERROR, by what it holds besides
-abbrev pub IsError : Extra → Type 0
-IsError NoExtra = ⊥
-IsError (CharLit c) = ⊥
-IsError (Blob n p q) = ⊥
-IsError (LexError n p1 p2) = Unit {0}
-IsError (Comment b) = ⊥
+-- it ends where the state after it stands, which isn't before st; if it is no ERROR it starts at st; and an ERROR is empty, has that kind,
+-- and is the last
+pub record Span (st : State) (t : Step) : Type 0 where
+  pub to : t .item .to ≡ t .next .offset
+  pub forward : st .offset ≤ t .next .offset
+  pub from : (IsError (t .item .extra) → ⊥) → t .item .from ≡ st .offset
+  pub empty : IsError (t .item .extra) → (t .item .from ≡ t .item .to) × (t .item .kind ≡ kind "ERROR")
+  pub ends : IsError (t .item .extra) → t .next .mode ≡ 2
 
--- it ends where the state after it stands; if it is no ERROR it starts at st; and an ERROR is empty, and has that kind
-record Span (st : State) (t : Step) : Type 0 where
-  to : t .item .to ≡ t .next .offset
-  from : (IsError (t .item .extra) → ⊥) → t .item .from ≡ st .offset
-  empty : IsError (t .item .extra) → (t .item .from ≡ t .item .to) × (t .item .kind ≡ kind "ERROR")
+-- of an item that is no ERROR
+plain-span : {st : State} {t : Step} → st .offset ≤ t .next .offset → t .item .to ≡ t .next .offset → t .item .from ≡ st .offset
+    → (IsError (t .item .extra) → ⊥) → Span st t
+plain-span l to from n = record { to = to; forward = l; from = λ _. from; empty = λ e. absurd (n e); ends = λ e. absurd (n e) }
 
 -- a piece of a comment that began at byte `from`
 piece-from : {s : Bytes} {from : ℕ} {st : State} {t : Step} → Piece s from st t → t .item .from ≡ from
@@ -65,25 +67,31 @@ piece-from p = ap (λ (x : Step). x .item .from) (p .is)
 piece-to : {s : Bytes} {from : ℕ} {st : State} {t : Step} → Piece s from st t → t .item .to ≡ t .next .offset
 piece-to p = subst (λ (x : Step). x .item .to ≡ x .next .offset) (sym (p .is)) refl
 
+pub piece-span : {s : Bytes} {st a : State} {t : Step} → Piece s (st .offset) a t → st .offset ≤ a .offset → Span st t
+piece-span p l =
+    plain-span (omega (arith, piece-forward p)) (piece-to p) (piece-from p) (subst (λ (x : Step). IsError (x .item .extra)) (p .is))
+
 -- every form
-form-span : {s name : Bytes} {U : Type 0} {st : State} {t : Step} → Form s name U st t → Span st t
-form-span (token k text sp ep nothing p l b) = record { to = refl; from = λ _. refl; empty = λ e. absurd e }
-form-span (token k text sp ep (code-point c) p l b) = record { to = refl; from = λ _. refl; empty = λ e. absurd e }
-form-span (blob k title contents sp ep pos snap p l b) = record { to = refl; from = λ _. refl; empty = λ e. absurd e }
-form-span (line text sp ep o b) = record { to = refl; from = λ _. refl; empty = λ e. absurd e }
-form-span (opened o p) = record {
-  to = piece-to p;
-  from = λ _. piece-from p;
-  empty = λ e. absurd (subst (λ (x : Step). IsError (x .item .extra)) (p .is) e);
+pub form-span : {s name : Bytes} {U : Type 0} {st : State} {t : Step} → Form s name U st t → Span st t
+form-span (token k text sp ep nothing p l b) = plain-span (omega arith) refl refl (λ e. e)
+form-span (token k text sp ep (code-point c) p l b) = plain-span (omega arith) refl refl (λ e. e)
+form-span (blob k title contents sp ep pos snap p l b) = plain-span (omega arith) refl refl (λ e. e)
+form-span (line text sp ep o b) = plain-span (omega (arith, o .past)) refl refl (λ e. e)
+form-span (opened o p) = piece-span p (omega (arith, o .past))
+form-span (error n text p1 p2 p b u) = record {
+  to = refl;
+  forward = path-reads p .ahead .forward;
+  from = λ plain. absurd (plain tt);
+  empty = λ _. (refl, refl);
+  ends = λ _. refl;
 }
-form-span (error n text p1 p2 p b u) = record { to = refl; from = λ plain. absurd (plain tt); empty = λ _. (refl, refl) }
 
 module _ (s name f : Bytes) where
   -- what a turn gives; at the text's end there is no choice, and EOF is empty there
-  turn-span : (st : State) → Leads Any (Span st) (token-turn s name f st)
+  pub turn-span : (st : State) → Leads Any (Span st) (token-turn s name f st)
   unfolding token-turn
   turn-span st =
-      by-le (Leads Any (Span st)) (length s) (st .offset) (λ _. record { to = refl; from = λ _. refl; empty = λ e. absurd e })
+      by-le (Leads Any (Span st)) (length s) (st .offset) (λ _. plain-span (omega arith) refl refl (λ e. e))
       (λ l. leads-map (λ b g. tt) (λ t v. form-span v) (act s name f st (select s f (st .offset))) (act-says s name f st (omega arith)))
 
   -- ---- where the choice was made
@@ -126,8 +134,7 @@ module _ (s name f : Bytes) where
 
     -- in a comment it is a piece
     carried-piece : st .mode ≡ 1 → Piece s (st .offset) st t
-    unfolding step
-    carried-piece m = rw (eq-eqb (st .mode) 1 m, step) (comment-piece s (st .offset) st (omega arith) m)
+    carried-piece m = subst (Piece s (st .offset) st) (sym (step-inside s name f st m)) (comment-piece s (st .offset) st (omega arith) m)
 
     -- what holds outside a comment and in one
     either-way : (P : Step → Type 0) → (Chosen st t → P t) → (st .mode ≡ 1 → P t) → P t

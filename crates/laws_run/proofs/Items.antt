@@ -15,7 +15,7 @@ use Rattle.definition.specs.Run.{most-items}
 use Rattle.definition.specs.declared.State.{State}
 use Rattle.lemmas.proofs.Cases.{by-outcome, by-test}
 use Rattle.laws_run.specs.Left.{awake, left, Opened}
-use Rattle.laws_run.proofs.FormLaws.{awake-small}
+use Rattle.laws_run.proofs.FormLaws.{awake-small, awake-yet}
 use Rattle.laws_run.proofs.Steps.{step-kept}
 use Rattle.definition.specs.Items.{steps, steps-of, Steps}
 
@@ -24,8 +24,7 @@ module _ (s name f : Bytes) where
   pub step-left : (st : State) → Opened st → (st .mode ≡ 2 → ⊥) → (Opened (step s name f st .next)) × (left s (step s name f st .next) < left s st)
   step-left st o n =
       let g = step-kept s name f st o n .gives in
-      let w : awake (st .mode) ≡ 1 = ap (λ t. elim t as (λ _. ℕ) [ true ↦ 0 | false ↦ 1 ]) (ne-eqb (st .mode) 2 n) in
-      (g .opened o, omega (arith, g .less, w))
+      (g .opened o, omega (arith, g .less, awake-yet (st .mode) n))
 
   -- at the end there are none
   steps-end : (n : ℕ) (st : State) → st .mode ≡ 2 → steps s name f n st ≡ []

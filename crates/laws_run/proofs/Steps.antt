@@ -8,7 +8,7 @@ use native.Mathlib.Omega.{arith}
 use lib.Dec.{eqb}
 use lib.ListN.{length, getD}
 use lib.Seq.{length-slice}
-use borrow.Author.Tests.{eqb-true, eqb-false, ne-eqb}
+use borrow.Author.Tests.{eqb-true, eqb-false, eq-eqb, ne-eqb}
 use Rattle.definition.specs.Basics.{Bytes, loop, fuel, ch, codes}
 use Rattle.definition.specs.Utf8.{encode, encode-all}
 use Rattle.definition.specs.Text.{byte-is}
@@ -16,6 +16,7 @@ use Rattle.definition.specs.Tables.{cps, op-tokens}
 use Rattle.definition.specs.Rules.{Rule, RAny, place-rules, chosen-rule}
 use Rattle.definition.specs.Select.{select}
 use Rattle.definition.specs.Item.{Step, error-here}
+use Rattle.definition.specs.Comment.{comment}
 use Rattle.definition.specs.Token.{by-rule, act, token-turn, next-token, step}
 use Rattle.definition.specs.Regex.{In, Permits, word}
 use Rattle.definition.specs.Patterns.{pattern, patterns}
@@ -206,6 +207,15 @@ module _ (s name f : Bytes) where
       ended-kept a n = error-kept a (outside-zero n)
 
   -- ---- steps
+
+  -- Between comments a step is the next token; in one it is the comment's next piece.
+  pub step-between : (st : State) → st .mode ≡ 0 → step s name f st ≡ next-token s name f st
+  unfolding step
+  step-between st m = rw (step, ne-eqb (st .mode) 1 (λ e. absurd (omega (arith, m, e))))
+
+  pub step-inside : (st : State) → st .mode ≡ 1 → step s name f st ≡ comment s (st .offset) st
+  unfolding step
+  step-inside st m = rw (step, eq-eqb (st .mode) 1 m)
 
   -- What every step keeps.
   pub step-kept : (st : State) → Opened st → (st .mode ≡ 2 → ⊥) → Kept s name st (step s name f st)

@@ -1,4 +1,5 @@
--- The whole run: refused, or its items. Rests on what a run that isn't refused was given, and on the laws of what it does and of demand 3.
+-- The whole run: refused, or its items. Rests on what a run that isn't refused was given, and on the laws of what it does, of what is counted
+-- of its text (K4) and of demand 3.
 use Prim.Native.Nat.{ℕ}
 use mathlib.Core.Path.{_≡_, refl, sym, ap, subst, _∙_}
 use mathlib.Core.List.{List}
@@ -13,6 +14,8 @@ use Rattle.laws_run.proofs.Refusals.{run-accepted}
 use Rattle.laws_run.specs.Written.{Done}
 use Rattle.laws_run.proofs.Demand3.{every-reading}
 use Rattle.laws_run.proofs.Laws.{run-done}
+use Rattle.laws_coverage.specs.Coverage.{NothingLost}
+use Rattle.laws_coverage.proofs.Law.{nothing-lost}
 use Rattle.lexer.specs.Promises.{RefusedOrCounted}
 
 module _ (s name f : Bytes) (st : State) {n o : ℕ} (e : _≡_ {A = ℕ × ℕ} (n, o) (refusal s name f st)) where
@@ -33,6 +36,10 @@ module _ (s name f : Bytes) (st : State) {n o : ℕ} (e : _≡_ {A = ℕ × ℕ}
   -- so that it was given what a run asks for,
   pub runs-accepted : n ≡ 0 → Accepted s name f st
   runs-accepted h = run-accepted s name f st (taken h)
+
+  -- nothing of its text is lost between items,
+  pub runs-lossless : n ≡ 0 → NothingLost s name f st
+  runs-lossless h = nothing-lost s name f st (runs-accepted h .stands)
 
   -- demand 3 holds of it,
   pub runs-right : n ≡ 0 → EveryReading s name f st

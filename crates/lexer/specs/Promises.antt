@@ -11,6 +11,7 @@ use Rattle.definition.specs.Reading.{EveryReading}
 use Rattle.definition.specs.declared.State.{State}
 use Rattle.definition.specs.declared.RunAnswer.{RunAnswer}
 use Rattle.laws_run.specs.Written.{Done}
+use Rattle.laws_coverage.specs.Coverage.{NothingLost}
 
 -- ---- demand 1: a run "answers one refusal number with every buffer unaltered" "or a count of whole items with the state after them"
 
@@ -37,10 +38,16 @@ RefusedOrCounted s name f st rs ps o = Refused st rs ps o ⊎ Done s name f st r
 abbrev pub AsDefined : Bytes → Bytes → Bytes → State → List ℕ → Bytes → Outcome → Type 0
 AsDefined s name f st rs ps o = o ≡ run s name f st rs ps
 
+-- as document 02's K4 adds to it, of a run that isn't refused: "no byte can vanish". From st on, each byte that the reading takes is counted
+-- once, in the span of an item that runs from st write or in what is skipped between two, and where no more is taken the last item says why.
+-- r is the run's answer; what is counted, and up to where, says `NothingLost` (crates/laws_coverage/specs/Coverage.antt)
+abbrev pub NoByteVanishes : Bytes → Bytes → Bytes → State → RunAnswer → Type 0
+NoByteVanishes s name f st r = r .refusal ≡ 0 → NothingLost s name f st
+
 -- ---- demand 3: "At every reading position" of a run that isn't refused "the choice is the longest part that any rule's pattern permits,
 -- every way of splitting counted; ties go to the earlier rule", "unexpected char" comes "exactly when no rule permits a byte", and "each
 -- choice that is no error moves on"
 
--- r is the run's answer; what a reading position is, and what holds there, says `EveryReading` (crates/definition/specs/Reading.antt)
+-- what a reading position is, and what holds there, says `EveryReading` (crates/definition/specs/Reading.antt)
 abbrev pub LongestEverywhere : Bytes → Bytes → Bytes → State → RunAnswer → Type 0
 LongestEverywhere s name f st r = r .refusal ≡ 0 → EveryReading s name f st

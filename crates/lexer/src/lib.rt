@@ -21,7 +21,7 @@ ghost use Rattle.definition.specs.State.{start};
 ghost use Rattle.definition.specs.ClassFile.{class-check};
 ghost use Rattle.definition.specs.Run.{run-items};
 ghost use Rattle.laws_run.specs.Accepted.{Accepted};
-ghost use Rattle.lexer.specs.Promises.{RefusedOrCounted, AsDefined, LongestEverywhere};
+ghost use Rattle.lexer.specs.Promises.{RefusedOrCounted, AsDefined, NoByteVanishes, LongestEverywhere};
 
 // Document 01's start: the state at the beginning of a text, at a line and a column.
 pub fn start(line: u32, column: u32) -> StartAnswer
@@ -118,6 +118,7 @@ pub fn run(
 ) -> RunAnswer
     ensures refused_or_counted { λ r. ⌜ RefusedOrCounted (now (text .entry)) (now (name .entry)) (now (classes .entry)) st (now (records .entry)) (now (payload .entry)) (r, now (records .exit), now (payload .exit)) ⌝ }
     ensures outcome { λ r. ⌜ AsDefined (now (text .entry)) (now (name .entry)) (now (classes .entry)) st (now (records .entry)) (now (payload .entry)) (r, now (records .exit), now (payload .exit)) ⌝ }
+    ensures nothing_lost { λ r. ⌜ NoByteVanishes (now (text .entry)) (now (name .entry)) (now (classes .entry)) st r ⌝ }
     ensures every_reading { λ r. ⌜ LongestEverywhere (now (text .entry)) (now (name .entry)) (now (classes .entry)) st r ⌝ }
 {
     let refused = refusal(text, name, classes, st);

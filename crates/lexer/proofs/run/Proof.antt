@@ -1,5 +1,6 @@
--- A refusal alters nothing; what isn't refused is a run of items, all whole, at every reading position of which demand 3 holds.
-use Rattle.lexer.proofs.WholeLaws.{run-refuses, run-runs, runs-accepted, runs-right, refuses-whole, runs-counted}
+-- A refusal alters nothing; what isn't refused is a run of items, all whole, between which nothing is lost, and at every reading position of
+-- which demand 3 holds.
+use Rattle.lexer.proofs.WholeLaws.{run-refuses, run-runs, runs-accepted, runs-lossless, runs-right, refuses-whole, runs-counted}
 use borrow.Author.Needs.{needs}
 use Rattle.lexer.proofs.run.Statement.{statement}
 use Rattle.lexer.proofs.run.Tie as tie
@@ -11,7 +12,7 @@ returns : tie.Need-returns
 returns c =
     let r = c .before .before .refusal .ensures in
     let n = c .if1 .taken in
-    (refuses-whole _ _ _ _ r _ _ n, (run-refuses _ _ _ _ r _ _ n, λ h. absurd (n h)))
+    (refuses-whole _ _ _ _ r _ _ n, (run-refuses _ _ _ _ r _ _ n, ((λ h. absurd (n h)), (λ h. absurd (n h)))))
 
 run-items-requires : tie.Need-run-items-requires
 run-items-requires c κs = runs-accepted _ _ _ _ (c .before .before .before .before .refusal .ensures) (c .before .before .if1 .left)
@@ -27,7 +28,7 @@ returns-2 c =
     let d = c .before .before .before .before in
     let r = d .before .before .before .before .before .refusal .ensures in
     let z = d .before .before .before .if1 .left in
-    (runs-counted _ _ _ _ r _ _ _ z (d .run-items .ensures), (run-runs _ _ _ _ r _ _ _ z (d .run-items .ensures), λ _. runs-right _ _ _ _ r z))
+    (runs-counted _ _ _ _ r _ _ _ z (d .run-items .ensures), (run-runs _ _ _ _ r _ _ _ z (d .run-items .ensures), ((λ _. runs-lossless _ _ _ _ r z), (λ _. runs-right _ _ _ _ r z))))
 
 pub run-spec : {M : Type 1} → statement M
 run-spec =

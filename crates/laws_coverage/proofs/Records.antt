@@ -1,0 +1,118 @@
+-- The records that runs write have the spans of what the reading takes, however the runs are split; so document 02's K4 holds of them. Rests
+-- on the law of coverage (Law) and on the laws of split runs (crate `laws_run`, Laws).
+use Prim.Native.Nat.{ℕ, _+_, _<_}
+use mathlib.Core.Path.{_≡_, refl, sym, ap, ap₂, subst, _∙_}
+use mathlib.Core.List.{List, [], _∷_, _++_, map, map-append}
+use mathlib.Core.Logic.{⊎-elim}
+use native.Mathlib.Omega.{arith}
+use lib.ListN.{length, getD}
+use Rattle.definition.specs.Basics.{Bytes}
+use Rattle.definition.specs.Kinds.{kind-names, number-from, kind}
+use Rattle.definition.specs.Item.{Step}
+use Rattle.definition.specs.Run.{refusal, run}
+use Rattle.definition.specs.Items.{Told, told, steps-of, items-of}
+use Rattle.definition.specs.declared.State.{State}
+use Rattle.laws_run.specs.Split.{Split, no-run, then-run}
+use Rattle.laws_run.proofs.ItemSpans.{last-words}
+use Rattle.laws_run.proofs.Items.{steps-of-end}
+use Rattle.laws_run.proofs.Refusals.{run-stands}
+use Rattle.laws_run.proofs.Laws.{handed-back-taken, split-items, split-whole}
+use Rattle.laws_coverage.specs.Coverage.{Taking, skipped, gave, takings, Part, steps-in, span, spans-in, skips-in, in-part, held, limit, Forward, Last, NothingLost}
+use Rattle.laws_coverage.specs.Records.{told-span, told-spans, last-kind, counted, UpToFailed, Covered}
+use Rattle.laws_coverage.proofs.Counting.{inside}
+use Rattle.laws_coverage.proofs.Law.{nothing-lost}
+
+-- ---- the span in an item's record
+
+told-span-is : (t : Step) → told-span (told t) ≡ span t
+told-span-is t = let w = last-words (t .item) 0 in ap₂ (λ (i j : ℕ). (i, j)) (w .0) (w .1)
+
+told-spans-are : (ts : List Step) → told-spans (map told ts) ≡ map span ts
+told-spans-are [] = refl
+told-spans-are (t ∷ ts) = ap₂ (λ (p : Part) (ps : List Part). p ∷ ps) (told-span-is t) (told-spans-are ts)
+
+-- the kind of the last
+last-kind-is : (k : ℕ) (before : List Taking) (at : ℕ) (t : Step) → last-kind k (map told (steps-in (before ++ (gave at t ∷ [])))) ≡ t .item .kind
+unfolding steps-in
+last-kind-is k [] at t = refl
+last-kind-is k (skipped place from to ∷ ts) at t = last-kind-is k ts at t
+last-kind-is k (gave i u ∷ ts) at t = last-kind-is (u .item .kind) ts at t
+
+-- three kinds of an item that differ: a comment's, EOF's and ERROR's
+eof-kind : (kind "EOF" ≡ 0 → ⊥) × (kind "EOF" ≡ kind "ERROR" → ⊥)
+unfolding kind kind-names number-from
+eof-kind = ((λ e. absurd (omega arith)), (λ e. absurd (omega arith)))
+
+error-kind : kind "ERROR" ≡ 0 → ⊥
+unfolding kind kind-names number-from
+error-kind e = absurd (omega arith)
+
+module _ (s name f : Bytes) where
+  -- of a state that a run isn't refused with
+  covering : (g : State) → refusal s name f g .0 ≡ 0 → NothingLost s name f g
+  covering g taken = nothing-lost s name f g (run-stands s name f g taken)
+
+  -- runs one after another aren't refused either
+  split-taken : {g e : State} {l : List Told} → refusal s name f g .0 ≡ 0 → Split s name f g l e → refusal s name f e .0 ≡ 0
+  split-taken taken no-run = taken
+  split-taken {g} taken (then-run rs ps rest) = split-taken (handed-back-taken s name f g rs ps taken) rest
+
+  -- The spans of what the reading takes are those in the records that runs wrote, and then those of the state that the last handed back.
+  pub split-spans : {g e : State} {l : List Told} → refusal s name f g .0 ≡ 0 → Split s name f g l e
+      → spans-in (takings s name f g) ≡ told-spans l ++ spans-in (takings s name f e)
+  split-spans {g} {e} {l} taken w =
+      ap (map span) (covering g taken .items)
+      ∙ sym (told-spans-are (steps-of s name f g))
+      ∙ ap told-spans (split-items s name f taken w)
+      ∙ map-append told-span l (items-of s name f e)
+      ∙ ap (λ (ps : List Part). told-spans l ++ ps) (told-spans-are (steps-of s name f e) ∙ sym (ap (map span) (covering e (split-taken taken w) .items)))
+
+  module _ {g e : State} {l : List Told} (taken : refusal s name f g .0 ≡ 0) (w : Split s name f g l e) (ended : e .mode ≡ 2) where
+    -- what the runs wrote are the items that were taken
+    written : l ≡ map told (steps-in (takings s name f g))
+    written = split-whole s name f taken w ended ∙ ap (map told) (sym (covering g taken .items))
+
+    -- Runs that come to the end wrote them all.
+    pub whole-spans : told-spans l ≡ spans-in (takings s name f g)
+    whole-spans = ap told-spans written ∙ told-spans-are (steps-in (takings s name f g))
+
+    -- so what is counted is counted by the records
+    counted-once : (b : ℕ) → counted s name f g l b ≡ in-part b (g .offset, limit (g .offset) (takings s name f g))
+    counted-once b = ap (λ (ps : List Part). held b ps + held b (skips-in (takings s name f g))) whole-spans ∙ covering g taken .once b
+
+    -- a last item that isn't of kind 0 is the last that was taken
+    module _ (h : last-kind 0 l ≡ 0 → ⊥) where
+      the-last : Last s name f g (takings s name f g)
+      the-last = covering g taken .last λ m. h (ap (last-kind 0) (split-whole s name f taken w ended ∙ ap (map told) (steps-of-end s name f g m)))
+
+      last-is : last-kind 0 l ≡ the-last .t .item .kind
+      last-is =
+          ap (last-kind 0) (written ∙ ap (λ (us : List Taking). map told (steps-in us)) (the-last .is-last))
+          ∙ last-kind-is 0 (the-last .before) (the-last .at .offset) (the-last .t)
+
+    -- Document 02's K4.
+    pub covered : g .offset ≡ 0 → Covered s name f g l
+    covered first = record {
+      eof = λ h b k.
+          let n : last-kind 0 l ≡ 0 → ⊥ = λ z. eof-kind .0 (sym h ∙ z) in
+          let x = the-last n in
+          let ends : x .at .offset ≡ length s = ⊎-elim (λ q. q .1) (λ q. absurd (eof-kind .1 (sym h ∙ last-is n ∙ q .0))) (x .ends) in
+          below b (omega (arith, x .limited, ends));
+      error = λ h.
+          let n : last-kind 0 l ≡ 0 → ⊥ = λ z. error-kind (sym h ∙ z) in
+          let x = the-last n in
+          record {
+            at = x .at;
+            reached = x .reached;
+            mode = x .mode;
+            within = ⊎-elim (λ q. absurd (eof-kind .1 (sym (q .0) ∙ sym (last-is n) ∙ h))) (λ q. q .1) (x .ends);
+            t = x .t;
+            gives = x .gives;
+            fails = sym (last-is n) ∙ h;
+            once = λ b k. below b (omega (arith, x .limited));
+          };
+      forward = subst (Forward 0) (sym whole-spans) (subst (λ (o : ℕ). Forward o (spans-in (takings s name f g))) first (covering g taken .forward));
+    }
+      where
+        below : (b : ℕ) → b < limit (g .offset) (takings s name f g) → counted s name f g l b ≡ 1
+        below b h = counted-once b ∙ inside b (g .offset) (limit (g .offset) (takings s name f g)) (omega arith) h

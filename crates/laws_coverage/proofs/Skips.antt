@@ -1,0 +1,106 @@
+-- What is skipped: `next_token` calls itself after a choice of place 7, 8 or 29 alone, and reading goes on where that choice ends. Rests on
+-- the rules of the places, looked at one by one.
+use Prim.Native.Nat.{ℕ, zero, suc, _+_, _≤_}
+use Prim.Native.String.{String}
+use mathlib.Core.Path.{_≡_, refl, sym, subst}
+use mathlib.Core.List.{List, _∷_}
+use mathlib.Core.Logic.{inl, inr}
+use mathlib.Core.Option.{Option, none, some}
+use native.Mathlib.Omega.{arith}
+use lib.Dec.{ltb, eqb}
+use lib.ListN.{length, getD}
+use Rattle.definition.specs.Basics.{Bytes, again}
+use Rattle.definition.specs.Text.{lexeme}
+use Rattle.definition.specs.Tables.{Entry, find}
+use Rattle.definition.specs.Kinds.{kind}
+use Rattle.definition.specs.Matchers.{no-comment}
+use Rattle.definition.specs.Numbers.{clean-number, int-of-string}
+use Rattle.definition.specs.Rules.{RWhite, RNewline, RInFStar, RAny, place-rules, chosen-rule}
+use Rattle.definition.specs.Select.{select}
+use Rattle.definition.specs.Token.{Token-turn, reserved-prefix, starts-with, finish, finish-entry, finish-word, ident, uint8, op, by-rule, act, token-turn}
+use Rattle.definition.specs.declared.Choice.{Choice}
+use Rattle.definition.specs.declared.State.{State}
+use Rattle.lemmas.proofs.Loops.{Leads, Any}
+use Rattle.lemmas.proofs.Cases.{by-test, by-le}
+use Rattle.lemmas.proofs.Each.{Numbered, no-more, _⨟_, numbered-within}
+use Rattle.laws_longest.proofs.Law.{select-longest}
+use Rattle.laws_coverage.specs.Coverage.{SkipPlace}
+
+-- a turn that goes on does so after a choice of place k that ends at e
+abbrev Passes : ℕ → ℕ → Token-turn → Type 0
+Passes k e = Leads (λ (b : State). SkipPlace k × (b .offset ≡ e)) Any
+
+module _ (s name f : Bytes) (st : State) (e w : ℕ) where
+  -- the three rules that skip
+  white-passes : Passes 7 e (by-rule s name f st e RWhite)
+  white-passes = (inl refl, refl)
+
+  newline-passes : Passes 8 e (by-rule s name f st e RNewline)
+  newline-passes = (inr (inl refl), refl)
+
+  in-f-star-passes : Passes 29 e (by-rule s name f st e RInFStar)
+  in-f-star-passes = (inr (inr refl), refl)
+
+  -- those that look further before they give an item
+  word-passes : (k : ℕ) (table : List Entry) (d : String) → Passes k e (finish-word s st e table d)
+  word-passes k table d = go (find (lexeme s (st .offset) e) table)
+    where
+      go : (x : Option Entry) → Passes k e (elim x [ some y ↦ finish-entry s st e y | none ↦ finish s st e (kind d) (lexeme s (st .offset) e) ])
+      go (some y) = tt
+      go none = tt
+
+  ident-passes : (k : ℕ) → Passes k e (ident s st e)
+  ident-passes k = by-test (Passes k e) (starts-with (lexeme s (st .offset) e) reserved-prefix) (λ _. tt) (λ _. word-passes k _ _)
+
+  uint8-passes : (k : ℕ) → Passes k e (uint8 s st e)
+  uint8-passes k = by-test (Passes k e) (ltb 255 (int-of-string (clean-number (lexeme s (st .offset) e)))) (λ _. tt) (λ _. tt)
+
+  op-passes : (k : ℕ) (d : String) → Passes k e (op s st e d)
+  op-passes k d = by-test (Passes k e) (eqb (no-comment s (st .offset) e) (st .offset)) (λ _. tt) (λ _. tt)
+
+  -- every place
+  place-passes : Numbered (λ k r. Passes k e (by-rule s name f st e r)) 1 (place-rules w)
+  unfolding place-rules
+  place-passes =
+      tt ⨟ tt ⨟ tt ⨟ tt ⨟ tt ⨟ tt
+      ⨟ white-passes  -- 7 RWhite
+      ⨟ newline-passes  -- 8 RNewline
+      ⨟ tt ⨟ tt ⨟ tt ⨟ tt ⨟ tt
+      ⨟ ident-passes 14  -- RIdent
+      ⨟ word-passes 15 _ _  -- RConstructor
+      ⨟ tt
+      ⨟ uint8-passes 17  -- RUInt8
+      ⨟ tt ⨟ tt ⨟ tt ⨟ tt ⨟ tt ⨟ tt ⨟ tt ⨟ tt ⨟ tt ⨟ tt ⨟ tt
+      ⨟ in-f-star-passes  -- 29 RInFStar
+      ⨟ tt ⨟ tt ⨟ tt ⨟ tt ⨟ tt ⨟ tt ⨟ tt ⨟ tt ⨟ tt
+      ⨟ op-passes 39 _ ⨟ op-passes 40 _ ⨟ op-passes 41 _ ⨟ op-passes 42 _ ⨟ op-passes 43 _  -- ROp
+      ⨟ op-passes 44 _ ⨟ op-passes 45 _ ⨟ op-passes 46 _ ⨟ op-passes 47 _ ⨟ op-passes 48 _
+      ⨟ word-passes 49 _ _  -- RUOperator
+      ⨟ tt
+      ⨟ no-more
+
+module _ (s name f : Bytes) (st : State) where
+  c : Choice
+  c = select s f (st .offset)
+
+  -- the rule of the choice; where that is none of the places, `RAny` gives an item
+  rule-passes : c .place ≤ 50 → (k : ℕ) → c .place ≡ k → Passes (c .place) (c .end) (by-rule s name f st (c .end) (getD (RAny ∷ place-rules (c .word)) k RAny))
+  unfolding place-rules
+  rule-passes h zero q = tt
+  rule-passes h (suc k) q =
+      let r : 1 + k ≡ c .place = omega arith in
+      subst (λ (m : ℕ). Passes m (c .end) (by-rule s name f st (c .end) (getD (place-rules (c .word)) k RAny))) r
+      (numbered-within RAny (place-passes s name f st (c .end) (c .word)) k (omega arith))
+
+  turn-passes : Passes (c .place) (c .end) (token-turn s name f st)
+  unfolding token-turn act chosen-rule c
+  turn-passes =
+      by-le (Passes (c .place) (c .end)) (length s) (st .offset) (λ _. tt)
+      (λ l. rule-passes (select-longest s f (st .offset) (omega arith) .place) (c .place) refl)
+
+  -- What is skipped was chosen by one of the three rules, up to where the choice ends.
+  pub skips-there : {next : State} → token-turn s name f st ≡ again next → SkipPlace (select s f (st .offset) .place) × (select s f (st .offset) .end ≡ next .offset)
+  unfolding c
+  skips-there {next} e =
+      let p : SkipPlace (c .place) × (next .offset ≡ c .end) = subst (Passes (c .place) (c .end)) e turn-passes in
+      (p .0, sym (p .1))

@@ -1,0 +1,54 @@
+-- K4 in document 02's words, over the records that runs wrote into their buffers, however they were split. s is the text, name the file's name,
+-- f the class file, g the state that the first run was given, l what the runs wrote (crate `laws_run`, specs/Split.antt).
+use Prim.Native.Nat.{ℕ, _+_, _<_}
+use mathlib.Core.Path.{_≡_}
+use mathlib.Core.List.{List, [], _∷_, map}
+use lib.ListN.{length, getD}
+use Rattle.definition.specs.Basics.{Bytes, done}
+use Rattle.definition.specs.Kinds.{kind}
+use Rattle.definition.specs.Item.{Step}
+use Rattle.definition.specs.Token.{token-turn}
+use Rattle.definition.specs.Items.{Told}
+use Rattle.definition.specs.Reading.{Reached}
+use Rattle.definition.specs.declared.State.{State}
+use Rattle.laws_coverage.specs.Coverage.{takings, Part, skips-in, held, Forward}
+
+-- ---- what the records say
+
+-- words 16 and 17, which stand one earlier where word 6 is left out
+abbrev pub told-span : Told → Part
+told-span x = (getD (x .0) 15 0, getD (x .0) 16 0)
+
+abbrev pub told-spans : List Told → List Part
+told-spans l = map told-span l
+
+-- the kind of the last item, word 1; k where there is none
+abbrev pub last-kind : ℕ → List Told → ℕ
+last-kind k [] = k
+last-kind k (x ∷ l) = last-kind (getD (x .0) 1 0) l
+
+-- how many times byte b is counted, by the records and by what the reading skipped
+abbrev pub counted : Bytes → Bytes → Bytes → State → List Told → ℕ → ℕ
+counted s name f g l b = held b (told-spans l) + held b (skips-in (takings s name f g))
+
+-- ---- what holds of a text that is read from its first byte to its end
+
+-- "A text that ends in ERROR is covered likewise up to the first byte of the choice that failed": a run comes to that choice, and it gives the
+-- ERROR
+pub record UpToFailed (s name f : Bytes) (g : State) (l : List Told) : Type 0 where
+  pub at : State
+  pub reached : Reached s name f g at
+  pub mode : at .mode ≡ 0
+  pub within : at .offset < length s
+  pub t : Step
+  pub gives : token-turn s name f at ≡ done t
+  pub fails : t .item .kind ≡ kind "ERROR"
+  pub once : (b : ℕ) → b < at .offset → counted s name f g l b ≡ 1
+
+pub record Covered (s name f : Bytes) (g : State) (l : List Told) : Type 0 where
+  -- "For a text .. whose last item is EOF, every byte is counted once and only once: in one item's span, or in what the white, line-end or
+  -- `// IN F*:` rule took"
+  pub eof : last-kind 0 l ≡ kind "EOF" → (b : ℕ) → b < length s → counted s name f g l b ≡ 1
+  pub error : last-kind 0 l ≡ kind "ERROR" → UpToFailed s name f g l
+  -- "Spans never go backwards"
+  pub forward : Forward 0 (told-spans l)
