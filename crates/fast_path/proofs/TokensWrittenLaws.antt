@@ -12,7 +12,6 @@ use Rattle.definition.specs.Item.{record-size}
 use Rattle.definition.specs.Token.{step}
 use Rattle.definition.specs.Run.{run-turn}
 use Rattle.definition.specs.declared.Choice.{Choice}
-use Rattle.definition.specs.declared.State.{State}
 use Rattle.laws_run.specs.Left.{left}
 use Rattle.laws_run.specs.Going.{run-from}
 use Rattle.laws_run.proofs.Steps.{step-between, step-inside}

@@ -4,8 +4,8 @@ use mathlib.Core.Path.{_≡_, refl}
 use mathlib.Core.List.{map}
 use Rattle.definition.specs.Listed.{listed}
 use Rattle.laws_coverage.specs.Coverage.{turns, takings, limit}
-use Rattle.laws_coverage.specs.Cases.{computed, cases, texts, expected}
+use Rattle.laws_coverage.specs.Cases.{Case, rows-from, cases}
 
-pub takings-computed : map computed texts ≡ expected
-unfolding listed turns takings limit computed cases
+pub takings-computed : map (λ (c : Case). rows-from (c .0) (c .1)) cases ≡ map (λ (c : Case). (c .2, c .3)) cases
+unfolding listed turns takings limit cases
 takings-computed = refl

@@ -1,14 +1,10 @@
 -- Counting the parts that have a byte: an empty part has none, and two parts one behind the other have what the part from the first's
 -- beginning to the second's end has. Rests on nothing but the tests' own laws.
 use Prim.Native.Nat.{ℕ, _+_, _≤_, _<_}
-use mathlib.Core.Path.{_≡_, refl, sym, ap, ap₂, _∙_}
-use mathlib.Core.Bool.{true, false, _&&_}
-use mathlib.Core.List.{List, [], _∷_}
+use mathlib.Core.Path.{_≡_}
 use native.Mathlib.Omega.{arith}
-use lib.Dec.{ltb, leb}
-use Rattle.definition.specs.Basics.{if_then_else_}
 use Rattle.lemmas.proofs.Cases.{by-order, all-tests}
-use Rattle.laws_coverage.specs.Coverage.{Part, in-part}
+use Rattle.laws_coverage.specs.Coverage.{in-part}
 
 -- a byte of the part
 pub inside : (b from to : ℕ) → from ≤ b → b < to → in-part b (from, to) ≡ 1

@@ -3,13 +3,13 @@
 use Prim.Native.Nat.{ℕ, _+_, _<_}
 use mathlib.Core.Path.{_≡_, refl, sym, ap, ap₂, subst, _∙_}
 use mathlib.Core.List.{List, [], _∷_, _++_, map, map-append}
-use mathlib.Core.Logic.{⊎-elim}
+use mathlib.Core.Logic.{⊎-elim, ⊎-map}
 use native.Mathlib.Omega.{arith}
 use lib.ListN.{length, getD}
 use Rattle.definition.specs.Basics.{Bytes}
 use Rattle.definition.specs.Kinds.{kind-names, number-from, kind}
 use Rattle.definition.specs.Item.{Step}
-use Rattle.definition.specs.Run.{refusal, run}
+use Rattle.definition.specs.Run.{refusal}
 use Rattle.definition.specs.Items.{Told, told, steps-of, items-of}
 use Rattle.definition.specs.declared.State.{State}
 use Rattle.laws_run.specs.Split.{Split, no-run, then-run}
@@ -18,7 +18,7 @@ use Rattle.laws_run.proofs.Items.{steps-of-end}
 use Rattle.laws_run.proofs.Refusals.{run-stands}
 use Rattle.laws_run.proofs.Laws.{handed-back-taken, split-items, split-whole}
 use Rattle.laws_coverage.specs.Coverage.{Taking, skipped, gave, takings, Part, steps-in, span, spans-in, skips-in, in-part, held, limit, Forward, Last, NothingLost}
-use Rattle.laws_coverage.specs.Records.{told-span, told-spans, last-kind, counted, UpToFailed, Covered}
+use Rattle.laws_coverage.specs.Records.{told-span, told-spans, last-kind, counted, Covered}
 use Rattle.laws_coverage.proofs.Counting.{inside}
 use Rattle.laws_coverage.proofs.Law.{nothing-lost}
 
@@ -31,12 +31,18 @@ told-spans-are : (ts : List Step) → told-spans (map told ts) ≡ map span ts
 told-spans-are [] = refl
 told-spans-are (t ∷ ts) = ap₂ (λ (p : Part) (ps : List Part). p ∷ ps) (told-span-is t) (told-spans-are ts)
 
--- the kind of the last
-last-kind-is : (k : ℕ) (before : List Taking) (at : ℕ) (t : Step) → last-kind k (map told (steps-in (before ++ (gave at t ∷ [])))) ≡ t .item .kind
+-- ---- the last item
+
+steps-last : (before : List Taking) (at : ℕ) (t : Step) → steps-in (before ++ (gave at t ∷ [])) ≡ steps-in before ++ (t ∷ [])
 unfolding steps-in
-last-kind-is k [] at t = refl
-last-kind-is k (skipped place from to ∷ ts) at t = last-kind-is k ts at t
-last-kind-is k (gave i u ∷ ts) at t = last-kind-is (u .item .kind) ts at t
+steps-last [] at t = refl
+steps-last (skipped place from to ∷ ts) at t = steps-last ts at t
+steps-last (gave i u ∷ ts) at t = ap (λ (us : List Step). u ∷ us) (steps-last ts at t)
+
+-- its kind
+last-kind-is : (k : ℕ) (before : List Told) (x : Told) → last-kind k (before ++ (x ∷ [])) ≡ getD (x .0) 1 0
+last-kind-is k [] x = refl
+last-kind-is k (y ∷ l) x = last-kind-is (getD (y .0) 1 0) l x
 
 -- three kinds of an item that differ: a comment's, EOF's and ERROR's
 eof-kind : (kind "EOF" ≡ 0 → ⊥) × (kind "EOF" ≡ kind "ERROR" → ⊥)
@@ -80,26 +86,44 @@ module _ (s name f : Bytes) where
     counted-once : (b : ℕ) → counted s name f g l b ≡ in-part b (g .offset, limit (g .offset) (takings s name f g))
     counted-once b = ap (λ (ps : List Part). held b ps + held b (skips-in (takings s name f g))) whole-spans ∙ covering g taken .once b
 
-    -- a last item that isn't of kind 0 is the last that was taken
-    module _ (h : last-kind 0 l ≡ 0 → ⊥) where
+    -- it is counted once below the limit, where the text is read from its first byte
+    counted-below : g .offset ≡ 0 → (b : ℕ) → b < limit (g .offset) (takings s name f g) → counted s name f g l b ≡ 1
+    counted-below first b h = counted-once b ∙ inside b (g .offset) (limit (g .offset) (takings s name f g)) (omega arith) h
+
+    -- the last item that was taken is the last in the records
+    module _ (going : g .mode ≡ 2 → ⊥) where
       the-last : Last s name f g (takings s name f g)
-      the-last = covering g taken .last λ m. h (ap (last-kind 0) (split-whole s name f taken w ended ∙ ap (map told) (steps-of-end s name f g m)))
+      the-last = covering g taken .last going
+
+      before : List Told
+      before = map told (steps-in (the-last .before))
+
+      written-last : l ≡ before ++ (told (the-last .t) ∷ [])
+      unfolding before
+      written-last =
+          written
+          ∙ ap (λ (us : List Taking). map told (steps-in us)) (the-last .is-last)
+          ∙ ap (map told) (steps-last (the-last .before) (the-last .at .offset) (the-last .t))
+          ∙ map-append told (steps-in (the-last .before)) (the-last .t ∷ [])
 
       last-is : last-kind 0 l ≡ the-last .t .item .kind
-      last-is =
-          ap (last-kind 0) (written ∙ ap (λ (us : List Taking). map told (steps-in us)) (the-last .is-last))
-          ∙ last-kind-is 0 (the-last .before) (the-last .at .offset) (the-last .t)
+      last-is = ap (last-kind 0) written-last ∙ last-kind-is 0 before (told (the-last .t))
+
+    -- there is one if it has a kind
+    has-last : (last-kind 0 l ≡ 0 → ⊥) → g .mode ≡ 2 → ⊥
+    has-last h m = h (ap (last-kind 0) (split-whole s name f taken w ended ∙ ap (map told) (steps-of-end s name f g m)))
 
     -- Document 02's K4.
     pub covered : g .offset ≡ 0 → Covered s name f g l
     covered first = record {
+      ends = λ n. ⊎-map (λ q. last-is n ∙ q .0) (λ q. last-is n ∙ q .0) (the-last n .ends);
       eof = λ h b k.
-          let n : last-kind 0 l ≡ 0 → ⊥ = λ z. eof-kind .0 (sym h ∙ z) in
+          let n = has-last (λ z. eof-kind .0 (sym h ∙ z)) in
           let x = the-last n in
           let ends : x .at .offset ≡ length s = ⊎-elim (λ q. q .1) (λ q. absurd (eof-kind .1 (sym h ∙ last-is n ∙ q .0))) (x .ends) in
-          below b (omega (arith, x .limited, ends));
+          counted-below first b (omega (arith, x .limited, ends));
       error = λ h.
-          let n : last-kind 0 l ≡ 0 → ⊥ = λ z. error-kind (sym h ∙ z) in
+          let n = has-last (λ z. error-kind (sym h ∙ z)) in
           let x = the-last n in
           record {
             at = x .at;
@@ -109,10 +133,9 @@ module _ (s name f : Bytes) where
             t = x .t;
             gives = x .gives;
             fails = sym (last-is n) ∙ h;
-            once = λ b k. below b (omega (arith, x .limited));
+            before = before n;
+            is-last = written-last n;
+            once = λ b k. counted-below first b (omega (arith, x .limited));
           };
       forward = subst (Forward 0) (sym whole-spans) (subst (λ (o : ℕ). Forward o (spans-in (takings s name f g))) first (covering g taken .forward));
     }
-      where
-        below : (b : ℕ) → b < limit (g .offset) (takings s name f g) → counted s name f g l b ≡ 1
-        below b h = counted-once b ∙ inside b (g .offset) (limit (g .offset) (takings s name f g)) (omega arith) h

@@ -1,5 +1,5 @@
 -- The table of K4: texts with what their reading takes, in order, and the limit up to which each byte is counted. proofs/Cases.antt computes
--- that the definition gives them. Texts start at 1:0, and are read with the class file of no ranges.
+-- that the definition gives them, with the class file of no ranges.
 use Prim.Native.Nat.{ℕ}
 use Prim.Native.String.{String}
 use mathlib.Core.List.{List, [], _∷_, _++_, map}
@@ -7,7 +7,7 @@ use Rattle.definition.specs.Basics.{Bytes}
 use Rattle.definition.specs.Utf8.{encode}
 use Rattle.definition.specs.Kinds.{kind}
 use Rattle.definition.specs.Tables.{cps}
-use Rattle.definition.specs.State.{started, with-mode, advance}
+use Rattle.definition.specs.State.{started, advance, ended, open-comment}
 use Rattle.definition.specs.Cases.{no-ranges}
 use Rattle.definition.specs.declared.State.{State}
 use Rattle.laws_coverage.specs.Coverage.{Taking, skipped, gave, takings, limit}
@@ -28,13 +28,14 @@ line-end = skip 8
 abbrev pub in-f-star : ℕ → ℕ → Row
 in-f-star = skip 29
 
--- a token from where its choice was made; a comment, whose kind is 0, likewise; and one that is empty elsewhere
+-- a token, and a comment, whose kind is 0: both begin where the choice was made, or the piece begun
 abbrev pub token : String → ℕ → ℕ → Row
 token k from to = item (kind k) from from to
 
 abbrev pub comment : ℕ → ℕ → Row
 comment from to = item 0 from from to
 
+-- EOF, and an ERROR, which is empty where its record says
 abbrev pub eof : ℕ → Row
 eof at = token "EOF" at at
 
@@ -47,45 +48,46 @@ row (gave at t) = item (t .item .kind) at (t .item .from) (t .item .to)
 
 -- ---- the table
 
--- a text, its limit, and its parts
+-- the state that the reading begins from, the text, its limit, and what is taken
 abbrev pub Case : Type 0
-Case = Bytes × ℕ × List Row
+Case = State × Bytes × ℕ × List Row
 
--- what the definition gives
-unfoldable pub computed : Bytes → ℕ × List Row
-computed s = let ts = takings s (cps "stdin") no-ranges (started 1 0) in (limit 0 ts, map row ts)
+abbrev start : State
+start = started 1 0
+
+-- what the definition takes of a text from a state on
+abbrev pub rows-from : State → Bytes → ℕ × List Row
+rows-from st s = let ts = takings s (cps "stdin") no-ranges st in (limit (st .offset) ts, map row ts)
 
 unfoldable pub cases : List Case
 cases =
     -- the white between two items is in neither
-    (cps "a b", 3, token "IDENT" 0 1 ∷ white 1 2 ∷ token "IDENT" 2 3 ∷ eof 3 ∷ [])
-    ∷ ([], 0, eof 0 ∷ [])
+    (start, cps "a b", 3, token "IDENT" 0 1 ∷ white 1 2 ∷ token "IDENT" 2 3 ∷ eof 3 ∷ [])
+    ∷ (start, [], 0, eof 0 ∷ [])
     -- an ERROR of number 1, 2 or 7 sits past its choice, and the limit is where that was made; of any other number it sits there
-    ∷ (cps "\"ab", 0, error 0 3 ∷ [])
-    ∷ (cps "a ```f\nx", 2, token "IDENT" 0 1 ∷ white 1 2 ∷ error 2 8 ∷ [])
-    ∷ (cps "\"\\uD800\"", 0, error 0 1 ∷ [])
-    ∷ (cps " uu___a", 1, white 0 1 ∷ error 1 1 ∷ [])
-    ∷ (cps "\n256uy", 1, line-end 0 1 ∷ error 1 1 ∷ [])
-    ∷ (cps "-1.5", 1, token "MINUS" 0 1 ∷ error 1 1 ∷ [])
-    ∷ (cps "a \\", 2, token "IDENT" 0 1 ∷ white 1 2 ∷ error 2 2 ∷ [])
+    ∷ (start, cps "\"ab", 0, error 0 3 ∷ [])
+    ∷ (start, cps "a ```f\nx", 2, token "IDENT" 0 1 ∷ white 1 2 ∷ error 2 8 ∷ [])
+    ∷ (start, cps "\"\\uD800\"", 0, error 0 1 ∷ [])
+    ∷ (start, cps " uu___a", 1, white 0 1 ∷ error 1 1 ∷ [])
+    ∷ (start, cps "\n256uy", 1, line-end 0 1 ∷ error 1 1 ∷ [])
+    ∷ (start, cps "-1.5", 1, token "MINUS" 0 1 ∷ error 1 1 ∷ [])
+    ∷ (start, cps "a \\", 2, token "IDENT" 0 1 ∷ white 1 2 ∷ error 2 2 ∷ [])
     -- `// IN F*:` is skipped, and what follows is code
-    ∷ (cps "x // IN F*: y", 13, token "IDENT" 0 1 ∷ white 1 2 ∷ in-f-star 2 11 ∷ white 11 12 ∷ token "IDENT" 12 13 ∷ eof 13 ∷ [])
+    ∷ (start, cps "x // IN F*: y", 13, token "IDENT" 0 1 ∷ white 1 2 ∷ in-f-star 2 11 ∷ white 11 12 ∷ token "IDENT" 12 13 ∷ eof 13 ∷ [])
     -- unclosed pieces: the first has the bytes, the others and EOF are empty at the text's end
-    ∷ (cps "(* a (* b", 9, comment 0 9 ∷ comment 9 9 ∷ eof 9 ∷ [])
+    ∷ (start, cps "(* a (* b", 9, comment 0 9 ∷ comment 9 9 ∷ eof 9 ∷ [])
     -- a later piece begins where the last ended, and no choice is made in it: white space and `//` are its bytes
-    ∷ (cps "(*(**) // *) c", 14, comment 0 6 ∷ comment 6 12 ∷ white 12 13 ∷ token "IDENT" 13 14 ∷ eof 14 ∷ [])
+    ∷ (start, cps "(*(**) // *) c", 14, comment 0 6 ∷ comment 6 12 ∷ white 12 13 ∷ token "IDENT" 13 14 ∷ eof 14 ∷ [])
     -- an operator that is cut at `//`, and the comment behind the cut
-    ∷ (cps "-//c", 4, token "OPINFIX2" 0 1 ∷ comment 1 4 ∷ eof 4 ∷ [])
+    ∷ (start, cps "-//c", 4, token "OPINFIX2" 0 1 ∷ comment 1 4 ∷ eof 4 ∷ [])
     -- line ends: CRLF is one; in a string they are the item's
-    ∷ (cps "a\r\n\n\rb", 6, token "IDENT" 0 1 ∷ line-end 1 3 ∷ line-end 3 4 ∷ line-end 4 5 ∷ token "IDENT" 5 6 ∷ eof 6 ∷ [])
-    ∷ (cps "\"a\n \" ", 6, token "STRING" 0 5 ∷ white 5 6 ∷ eof 6 ∷ [])
+    ∷ (start, cps "a\r\n\n\rb", 6, token "IDENT" 0 1 ∷ line-end 1 3 ∷ line-end 3 4 ∷ line-end 4 5 ∷ token "IDENT" 5 6 ∷ eof 6 ∷ [])
+    ∷ (start, cps "\"a\n \" ", 6, token "STRING" 0 5 ∷ white 5 6 ∷ eof 6 ∷ [])
     -- a BOM is white space, U+2028 a line end
-    ∷ (encode 0xFEFF ++ cps "a", 4, white 0 3 ∷ token "IDENT" 3 4 ∷ eof 4 ∷ [])
-    ∷ (cps "a" ++ (encode 0x2028 ++ cps "b"), 5, token "IDENT" 0 1 ∷ line-end 1 4 ∷ token "IDENT" 4 5 ∷ eof 5 ∷ [])
+    ∷ (start, encode 0xFEFF ++ cps "a", 4, white 0 3 ∷ token "IDENT" 3 4 ∷ eof 4 ∷ [])
+    ∷ (start, cps "a" ++ (encode 0x2028 ++ cps "b"), 5, token "IDENT" 0 1 ∷ line-end 1 4 ∷ token "IDENT" 4 5 ∷ eof 5 ∷ [])
+    -- from other states: between two items, in a comment, and where the reading has ended
+    ∷ (advance start 1, cps "a b", 3, white 1 2 ∷ token "IDENT" 2 3 ∷ eof 3 ∷ [])
+    ∷ (open-comment (advance start 6) (record { line = 1; col = 0 }), cps "(*(**) // *) c", 14, comment 6 12 ∷ white 12 13 ∷ token "IDENT" 13 14 ∷ eof 14 ∷ [])
+    ∷ (ended (advance start 1), cps "a b", 1, [])
     ∷ []
-
-abbrev pub texts : List Bytes
-texts = map (λ (c : Case). c .0) cases
-
-abbrev pub expected : List (ℕ × List Row)
-expected = map (λ (c : Case). (c .1, c .2)) cases

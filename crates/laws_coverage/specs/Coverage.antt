@@ -12,7 +12,7 @@ use Rattle.definition.specs.Kinds.{kind}
 use Rattle.definition.specs.Select.{select}
 use Rattle.definition.specs.Item.{Step}
 use Rattle.definition.specs.Comment.{comment}
-use Rattle.definition.specs.Token.{token-turn, step}
+use Rattle.definition.specs.Token.{token-turn}
 use Rattle.definition.specs.Run.{most-items}
 use Rattle.definition.specs.Items.{steps-of}
 use Rattle.definition.specs.Reading.{Reached}
@@ -20,13 +20,13 @@ use Rattle.definition.specs.declared.State.{State}
 
 -- ---- what the reading takes
 
--- in one turn: a choice that is passed, with its place, from its first byte up to where reading goes on; or an item, whose choice was made
--- (a later piece of a comment: which was begun) at byte `at`
+-- in one turn: what a choice of that place passes, from its first byte up to where reading goes on; or an item, whose choice was made, or
+-- whose piece of a comment begun, at byte `at`
 pub data Taking : Type 0 where
   skipped : (place from to : ℕ) → Taking
   gave : (at : ℕ) (t : Step) → Taking
 
--- the turn at st, as `step` makes it, and the state after it
+-- the turn from st, and the state after it: in a comment its next piece, elsewhere one call of `next_token`
 abbrev pub taken : Bytes → Bytes → Bytes → State → Taking × State
 taken s name f st =
     let i = st .offset in
@@ -53,23 +53,24 @@ takings s name f g = turns s name f (most-items s g) g
 
 -- ---- the parts of the text that were taken
 
--- the bytes from the first number on, up to the second
+-- the bytes from the first number up to the second, which is the first that isn't
 abbrev pub Part : Type 0
 Part = ℕ × ℕ
 
--- the items, and the span of each: words 16 and 17 of its record
+-- the items
 unfoldable pub steps-in : List Taking → List Step
 steps-in [] = []
 steps-in (skipped place from to ∷ ts) = steps-in ts
 steps-in (gave at t ∷ ts) = t ∷ steps-in ts
 
+-- their spans: words 16 and 17 of their records
 abbrev pub span : Step → Part
 span t = (t .item .from, t .item .to)
 
 abbrev pub spans-in : List Taking → List Part
 spans-in ts = map span (steps-in ts)
 
--- what was skipped between them
+-- what was skipped
 unfoldable pub skips-in : List Taking → List Part
 skips-in [] = []
 skips-in (skipped place from to ∷ ts) = (from, to) ∷ skips-in ts
@@ -90,8 +91,8 @@ held b (p ∷ ps) = in-part b p + held b ps
 abbrev pub times : ℕ → List Taking → ℕ
 times b ts = held b (spans-in ts) + held b (skips-in ts)
 
--- up to where: the byte at which the last item's choice was made, or o where there is no item. For EOF it is the text's end; for an ERROR
--- "the first byte of the choice that failed", which no record of error 1, 2 or 7 has: these sit where reading stopped
+-- the byte up to which it is counted: where the last item's choice was made; o if there is no item. So it is the text's end if that item is
+-- EOF, and "the first byte of the choice that failed" if it is an ERROR. No record of error 1, 2 or 7 has it: these sit further on
 unfoldable pub limit : ℕ → List Taking → ℕ
 limit o [] = o
 limit o (skipped place from to ∷ ts) = limit o ts
@@ -99,28 +100,28 @@ limit o (gave at t ∷ ts) = limit at ts
 
 -- ---- what is promised of them
 
--- the place of "the white, line-end or `// IN F*:` rule": `RWhite`, `RNewline`, `RInFStar` (`place-rules`)
+-- the place of "the white, line-end or `// IN F*:` rule": `RWhite`, `RNewline`, `RInFStar` (definition, `place-rules`)
 abbrev pub SkipPlace : ℕ → Type 0
 SkipPlace place = (place ≡ 7) ⊎ ((place ≡ 8) ⊎ (place ≡ 29))
 
--- what is skipped was chosen there by one of these rules, up to where that choice ends
+-- each part that is skipped is what such a rule took: the choice there is of its place, and ends where the part ends
 abbrev pub OnlySkips : Bytes → Bytes → List Taking → Type 0
 OnlySkips s f [] = Unit {0}
 OnlySkips s f (skipped place from to ∷ ts) =
     SkipPlace place × (select s f from .place ≡ place) × (select s f from .end ≡ to) × OnlySkips s f ts
 OnlySkips s f (gave at t ∷ ts) = OnlySkips s f ts
 
--- "Spans never go backwards": none begins before byte o, or before the end of the one before it, or ends before it begins
+-- "Spans never go backwards": the first begins at byte o or later, none ends before it begins, and the next begins where it ends or later
 abbrev pub Forward : ℕ → List Part → Type 0
 Forward o [] = Unit {0}
 Forward o ((from, to) ∷ ps) = (o ≤ from) × (from ≤ to) × Forward to ps
 
--- t, given at `at`, is EOF, and the text has ended there, or it is an ERROR: the choice there failed
+-- t, given at `at`, is EOF, and the text has ended there; or it is an ERROR, and the choice there failed
 abbrev pub EofOrFailed : Bytes → State → Step → Type 0
 EofOrFailed s at t =
     ((t .item .kind ≡ kind "EOF") × (at .offset ≡ length s)) ⊎ ((t .item .kind ≡ kind "ERROR") × (at .offset < length s))
 
--- the last thing taken is such an item, given where a run comes to, and the limit is there
+-- what is taken last is such an item; a run comes to where it is given, and that is the limit
 pub record Last (s name f : Bytes) (g : State) (ts : List Taking) : Type 0 where
   pub before : List Taking
   pub at : State
@@ -133,11 +134,11 @@ pub record Last (s name f : Bytes) (g : State) (ts : List Taking) : Type 0 where
   pub limited : limit (g .offset) ts ≡ at .offset
 
 pub record NothingLost (s name f : Bytes) (g : State) : Type 0 where
-  -- "every byte is counted once and only once", from where the reading begins up to the limit, and no other byte is counted
+  -- "every byte is counted once and only once", from where the reading begins up to the limit; no byte outside is counted
   pub once : (b : ℕ) → times b (takings s name f g) ≡ in-part b (g .offset, limit (g .offset) (takings s name f g))
   pub skips : OnlySkips s f (takings s name f g)
   pub forward : Forward (g .offset) (spans-in (takings s name f g))
-  -- the items are those that runs write (crate `laws_run`, proofs/Laws.antt), with these spans in their records (proofs/Records.antt)
+  -- the items are those that runs from g write, however they are split: the spans stand in the records (proofs/Records.antt)
   pub items : steps-in (takings s name f g) ≡ steps-of s name f g
-  -- the limit is the text's end, or where the choice was made that failed; from a state that has ended nothing is read
+  -- the limit is the text's end, or where the choice was made that failed; from a state that has ended nothing is taken
   pub last : (g .mode ≡ 2 → ⊥) → Last s name f g (takings s name f g)

@@ -2,13 +2,14 @@
 -- f the class file, g the state that the first run was given, l what the runs wrote (crate `laws_run`, specs/Split.antt).
 use Prim.Native.Nat.{ℕ, _+_, _<_}
 use mathlib.Core.Path.{_≡_}
-use mathlib.Core.List.{List, [], _∷_, map}
+use mathlib.Core.List.{List, [], _∷_, _++_, map}
+use mathlib.Core.Logic.{_⊎_}
 use lib.ListN.{length, getD}
 use Rattle.definition.specs.Basics.{Bytes, done}
 use Rattle.definition.specs.Kinds.{kind}
 use Rattle.definition.specs.Item.{Step}
 use Rattle.definition.specs.Token.{token-turn}
-use Rattle.definition.specs.Items.{Told}
+use Rattle.definition.specs.Items.{Told, told}
 use Rattle.definition.specs.Reading.{Reached}
 use Rattle.definition.specs.declared.State.{State}
 use Rattle.laws_coverage.specs.Coverage.{takings, Part, skips-in, held, Forward}
@@ -34,7 +35,7 @@ counted s name f g l b = held b (told-spans l) + held b (skips-in (takings s nam
 -- ---- what holds of a text that is read from its first byte to its end
 
 -- "A text that ends in ERROR is covered likewise up to the first byte of the choice that failed": a run comes to that choice, and it gives the
--- ERROR
+-- ERROR that is written last
 pub record UpToFailed (s name f : Bytes) (g : State) (l : List Told) : Type 0 where
   pub at : State
   pub reached : Reached s name f g at
@@ -43,9 +44,13 @@ pub record UpToFailed (s name f : Bytes) (g : State) (l : List Told) : Type 0 wh
   pub t : Step
   pub gives : token-turn s name f at ≡ done t
   pub fails : t .item .kind ≡ kind "ERROR"
+  pub before : List Told
+  pub is-last : l ≡ before ++ (told t ∷ [])
   pub once : (b : ℕ) → b < at .offset → counted s name f g l b ≡ 1
 
 pub record Covered (s name f : Bytes) (g : State) (l : List Told) : Type 0 where
+  -- the last item is EOF or ERROR, unless the first run was given a state that has ended
+  pub ends : (g .mode ≡ 2 → ⊥) → (last-kind 0 l ≡ kind "EOF") ⊎ (last-kind 0 l ≡ kind "ERROR")
   -- "For a text .. whose last item is EOF, every byte is counted once and only once: in one item's span, or in what the white, line-end or
   -- `// IN F*:` rule took"
   pub eof : last-kind 0 l ≡ kind "EOF" → (b : ℕ) → b < length s → counted s name f g l b ≡ 1

@@ -1,9 +1,8 @@
 -- Demand 3 of document 01: at every reading position of a run that isn't refused the choice is the longest and earliest, error 6 is given
 -- exactly where it is none of the places, and what is skipped, or gives an item that is no ERROR, has a byte or more. Rests on the law of
 -- the longest match (crate `laws_longest`), on what every turn says, and on the soundness of every state that a run comes to (Steps).
-use Prim.Native.Nat.{ℕ, _<_}
-use mathlib.Core.Path.{_≡_, refl, ap, subst}
-use mathlib.Core.Bool.{true, false}
+use Prim.Native.Nat.{_<_}
+use mathlib.Core.Path.{_≡_, refl, subst}
 use native.Mathlib.Omega.{arith}
 use lib.Dec.{eqb}
 use lib.ListN.{length}
@@ -21,7 +20,6 @@ use Rattle.definition.specs.declared.State.{State}
 use Rattle.lemmas.proofs.Cases.{by-outcome, by-le}
 use Rattle.state.specs.Sound.{Stands}
 use Rattle.laws_longest.proofs.Law.{select-longest}
-use Rattle.laws_run.specs.Left.{awake}
 use Rattle.laws_run.proofs.Paths.{Goes}
 use Rattle.laws_run.proofs.FormLaws.{awake-yet, form-gives, form-last, form-number}
 use Rattle.laws_run.proofs.Forms.{Form, Gives}

@@ -2,7 +2,6 @@
 -- every step keeps (Steps): each leaves less to read.
 use Prim.Native.Nat.{ℕ, zero, suc, _≤_, _<_}
 use mathlib.Core.Path.{_≡_, refl, sym, ap, subst, _∙_}
-use mathlib.Core.Bool.{true, false}
 use mathlib.Core.List.{List, [], _∷_, _++_}
 use native.Mathlib.Omega.{arith}
 use lib.Dec.{eqb}
@@ -14,7 +13,7 @@ use Rattle.definition.specs.Token.{step}
 use Rattle.definition.specs.Run.{most-items}
 use Rattle.definition.specs.declared.State.{State}
 use Rattle.lemmas.proofs.Cases.{by-outcome, by-test}
-use Rattle.laws_run.specs.Left.{awake, left, Opened}
+use Rattle.laws_run.specs.Left.{left, Opened}
 use Rattle.laws_run.proofs.FormLaws.{awake-small, awake-yet}
 use Rattle.laws_run.proofs.Steps.{step-kept}
 use Rattle.definition.specs.Items.{steps, steps-of, Steps}

@@ -1,8 +1,8 @@
 -- What every turn of `next-token` says, what every step keeps, and that every state that a run comes to is sound. Rests on the walk over
 -- the rules (Rules), on the longest match (crate `laws_longest`) for what a choice's rule asks, and on what every form keeps (FormLaws).
-use Prim.Native.Nat.{ℕ, zero, suc, _+_, _-_, _≤_, _<_}
+use Prim.Native.Nat.{ℕ, zero, suc, _+_, _≤_, _<_}
 use mathlib.Core.Path.{_≡_, refl, sym, ap, ap₂, subst, _∙_}
-use mathlib.Core.Bool.{true, false, not, false≢true}
+use mathlib.Core.Bool.{true, not, false≢true}
 use mathlib.Core.List.{List, [], _∷_, _++_}
 use native.Mathlib.Omega.{arith}
 use lib.Dec.{eqb}
