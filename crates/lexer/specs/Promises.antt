@@ -1,4 +1,5 @@
--- What `run` promises: the three demands, a definition each, which its contract (src/lib.rt) cites; docs/CONTRACTS.md has their sentences.
+-- What `run` promises: the three demands, a definition each, and what document 02 adds to demand 2, which its contract (src/lib.rt) cites;
+-- docs/CONTRACTS.md has their sentences.
 -- s is the text, name the file's name, f the class file, st the saved state, rs and ps the buffers lent for records and for payload, all as
 -- the run is given them. o is the run's outcome: its answer, and both buffers as it leaves them.
 use mathlib.Core.Path.{_≡_}
