@@ -1,5 +1,5 @@
--- The table of K4 as one claim: the checker computes what the definition takes of every text of specs/Cases.antt. Rests on nothing but the
--- definition.
+-- The table of K4 as one claim: the checker computes what the definition takes of every text of specs/Cases.antt. Rests on nothing but
+-- the definition.
 use mathlib.Core.Path.{_≡_, refl}
 use mathlib.Core.List.{map}
 use Rattle.definition.specs.Listed.{listed}

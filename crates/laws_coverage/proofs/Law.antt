@@ -1,19 +1,17 @@
--- Document 02, K4: nothing is lost between items. Rests on the turns of a reading (Turns) and where the bytes stand that each takes (Parts),
--- on what is skipped (Skips), on counting (Counting), and on the steps of a text (crate `laws_run`, Items).
+-- Document 02, K4: nothing is lost between items. Rests on the turns of a reading (Turns), on where the bytes stand that each takes
+-- (Parts), on what is skipped (Skips), on counting (Counting), and on the steps of a text (crate `laws_run`, Items).
 use Prim.Native.Nat.{ℕ, _≤_}
 use mathlib.Core.Path.{_≡_, refl, sym, ap, ap₂, subst, _∙_}
 use mathlib.Core.List.{List, [], _∷_, _++_}
 use native.Mathlib.Omega.{arith}
-use lib.Dec.{eqb}
-use borrow.Author.Tests.{eqb-true, eqb-false}
-use Rattle.definition.specs.Basics.{Bytes}
+use Rattle.definition.specs.Basics.{Bytes, again, done}
 use Rattle.definition.specs.Item.{Step}
 use Rattle.definition.specs.Token.{Token-turn, token-turn, next-token, step}
 use Rattle.definition.specs.Items.{steps-of}
 use Rattle.definition.specs.Reading.{Reached, skipped as reached-skipped}
 use Rattle.definition.specs.declared.State.{State}
 use Rattle.lemmas.proofs.Loops.{says}
-use Rattle.lemmas.proofs.Cases.{by-outcome}
+use Rattle.lemmas.proofs.Cases.{by-equal}
 use Rattle.state.specs.Sound.{Stands}
 use Rattle.laws_run.proofs.Steps.{token-unroll, step-between, step-inside, reached-stands}
 use Rattle.laws_run.proofs.Items.{steps-of-end, steps-of-on}
@@ -37,8 +35,8 @@ use Rattle.laws_coverage.specs.Coverage.{
   Last,
   NothingLost,
 }
-use Rattle.laws_coverage.proofs.Turns.{Skip, Give, by-turns}
-use Rattle.laws_coverage.proofs.Parts.{Placed, skip-forward, skip-mode, give-last, give-placed, carry-goes-on, carry-placed}
+use Rattle.laws_coverage.proofs.Turns.{Turned, turned-going, carried-going, by-turns}
+use Rattle.laws_coverage.proofs.Parts.{Placed, skip-forward, skip-outside, skip-going, item-last, item-placed, piece-next, piece-placed}
 use Rattle.laws_coverage.proofs.Skips.{skips-there}
 use Rattle.laws_coverage.proofs.Counting.{empty, joined}
 
@@ -55,7 +53,8 @@ placed-forward ps p h = (p .begins, p .ordered, subst (λ (o : ℕ). Forward o p
 
 -- ---- each byte once
 
--- what is taken from st on, by its bytes: each up to some limit once, and no other; that limit is where the last item's choice was made
+-- what is taken from st on has each byte from there up to some limit once, and no other; that limit is where the choice of the last item
+-- was made, or where st stands, if no item is left
 record Covers (st : State) (ts : List Taking) : Type 0 where
   upto : ℕ
   ahead : st .offset ≤ upto
@@ -67,10 +66,8 @@ module _ {st : State} {ts : List Taking} where
   covers-given : {t : Step} → Placed st t → (t .next .mode ≡ 2 → ts ≡ []) → Covers (t .next) ts → Covers st (gave (st .offset) t ∷ ts)
   unfolding steps-in skips-in held limit
   covers-given {t} p none c =
-      by-outcome (eqb (t .next .mode) 2)
-      (λ e.
-      let m = eqb-true (t .next .mode) 2 e in
-      record {
+      by-equal (t .next .mode) 2
+      (λ m. record {
         upto = st .offset;
         ahead = omega arith;
         once = λ b.
@@ -78,16 +75,15 @@ module _ {st : State} {ts : List Taking} where
             ap (λ (l : List Taking). times b (gave (st .offset) t ∷ l)) (none m) ∙ omega (arith, h, empty b (st .offset));
         limited = λ o _. ap (limit (st .offset)) (none m);
       })
-      (λ e.
-      let m = eqb-false (t .next .mode) 2 e in
+      (λ n.
       let l : st .offset ≤ t .next .offset = omega (arith, p .begins, p .ordered, p .to) in
       record {
         upto = c .upto;
         ahead = omega (arith, c .ahead);
         once = λ b.
-            let h : in-part b (span t) ≡ in-part b (st .offset, t .next .offset) = ap₂ (λ (i j : ℕ). in-part b (i, j)) (p .goes-on m) (p .to) in
+            let h : in-part b (span t) ≡ in-part b (st .offset, t .next .offset) = ap₂ (λ (i j : ℕ). in-part b (i, j)) (p .goes-on n) (p .to) in
             omega (arith, h, c .once b, joined b (st .offset) (t .next .offset) (c .upto) l (c .ahead));
-        limited = λ o _. c .limited (st .offset) (λ w. absurd (m w));
+        limited = λ o _. c .limited (st .offset) (λ m. absurd (n m));
       })
 
   -- with what is skipped before it
@@ -114,42 +110,49 @@ limit-last o [] at t = refl
 limit-last o (skipped place from to ∷ ts) at t = limit-last o ts at t
 limit-last o (gave i u ∷ ts) at t = limit-last i ts at t
 
+-- ---- the items
+
+-- outside a comment the step is what the turn says
+turn-step : (s name f : Bytes) (st : State) {x : Token-turn} → st .mode ≡ 0 → token-turn s name f st ≡ x → step s name f st ≡ says x (next-token s name f)
+turn-step s name f st m e = step-between s name f st m ∙ token-unroll s name f st ∙ ap (λ y. says y (next-token s name f)) e
+
 module _ (s name f : Bytes) (g : State) where
-  -- where the last item is given
-  last-given : {ts : List Taking} (before : List Taking) {at : State} {t : Step} → ts ≡ before ++ (gave (at .offset) t ∷ []) → Give s name f g at t
-      → EofOrFailed s at t → Last s name f g ts
-  last-given before {at} {t} e k ends = record {
+  -- ---- the last item
+
+  -- given at the choice st
+  last-given : {ts : List Taking} (before : List Taking) {st : State} {t : Step} → ts ≡ before ++ (gave (st .offset) t ∷ [])
+      → Turned s name f g st (done t) → EofOrFailed s st t → Last s name f g ts
+  last-given before {st} {t} e k ends = record {
     before = before;
-    at = at;
+    st = st;
     t = t;
     is-last = e;
     reached = k .reached;
-    mode = k .mode;
-    gives = k .turn;
+    outside = k .outside;
+    gives = k .says;
     ends = ends;
-    limited = ap (limit (g .offset)) e ∙ limit-last (g .offset) before (at .offset) t;
+    limited = ap (limit (g .offset)) e ∙ limit-last (g .offset) before (st .offset) t;
   }
 
-  -- it is the last with one more turn before
+  -- with one more turn before
   last-after : {ts : List Taking} (x : Taking) → Last s name f g ts → Last s name f g (x ∷ ts)
   last-after x l =
-      last-given (x ∷ l .before) (ap (λ (ts : List Taking). x ∷ ts) (l .is-last)) (record { reached = l .reached; mode = l .mode; turn = l .gives }) (l .ends)
+      last-given (x ∷ l .before) (ap (λ (ts : List Taking). x ∷ ts) (l .is-last))
+      (record { reached = l .reached; outside = l .outside; says = l .gives }) (l .ends)
 
   -- until the reading has ended there is one
   abbrev Ends : State → List Taking → Type 0
   Ends st ts = (st .mode ≡ 2 → ⊥) → Last s name f g ts
 
   module _ (sound : Stands s g) where
-    give-ends : {st : State} {t : Step} {ts : List Taking} → Give s name f g st t → (t .next .mode ≡ 2 → ts ≡ []) → Ends (t .next) ts
+    item-ends : {st : State} {t : Step} {ts : List Taking} → Turned s name f g st (done t) → (t .next .mode ≡ 2 → ts ≡ []) → Ends (t .next) ts
         → Last s name f g (gave (st .offset) t ∷ ts)
-    give-ends {st} {t} k none h =
-        by-outcome (eqb (t .next .mode) 2)
-        (λ q.
-        let m = eqb-true (t .next .mode) 2 q in
-        last-given [] (ap (λ (l : List Taking). gave (st .offset) t ∷ l) (none m)) k (give-last s name f g sound k m .1))
-        (λ q. last-after (gave (st .offset) t) (h (eqb-false (t .next .mode) 2 q)))
+    item-ends {st} {t} k none h =
+        by-equal (t .next .mode) 2
+        (λ m. last-given [] (ap (λ (l : List Taking). gave (st .offset) t ∷ l) (none m)) k (item-last s name f g sound k m .1))
+        (λ n. last-after (gave (st .offset) t) (h n))
 
-    -- ---- the items
+    -- ---- the steps
 
     -- the step at st, and those after it, are the steps of st
     step-first : {st : State} {t : Step} {ts : List Step} → Reached s name f g st → (st .mode ≡ 2 → ⊥) → step s name f st ≡ t
@@ -158,27 +161,22 @@ module _ (s name f : Bytes) (g : State) where
         subst (λ (u : Step). ts ≡ steps-of s name f (u .next) → u ∷ ts ≡ steps-of s name f st) e
         (λ q. ap (λ (l : List Step). step s name f st ∷ l) q ∙ sym (steps-of-on s name f st (reached-stands s name f r sound .sound .opened) n)) h
 
-    -- outside a comment the step is what the turn says
-    turn-step : (st : State) {x : Token-turn} → st .mode ≡ 0 → token-turn s name f st ≡ x → step s name f st ≡ says x (next-token s name f)
-    turn-step st m e = step-between s name f st m ∙ token-unroll s name f st ∙ ap (λ y. says y (next-token s name f)) e
-
-    -- so what is skipped changes no step
-    skip-same : {st next : State} → Skip s name f g st next → steps-of s name f next ≡ steps-of s name f st
+    -- what is skipped changes none of them
+    skip-same : {st next : State} → Turned s name f g st (again next) → steps-of s name f next ≡ steps-of s name f st
     skip-same {st} {next} k =
-        let m = k .mode in
-        let z = skip-mode s name f g k in
-        let same : step s name f st ≡ step s name f next = turn-step st m (k .turn) ∙ sym (step-between s name f next z) in
-        steps-of-on s name f next (reached-stands s name f (reached-skipped (k .reached) m (k .turn)) sound .sound .opened) (λ w. absurd (omega arith))
-        ∙ step-first (k .reached) (λ w. absurd (omega arith)) same refl
+        let r : Reached s name f g next = reached-skipped (k .reached) (k .outside) (k .says) in
+        let same : step s name f st ≡ step s name f next =
+        turn-step s name f st (k .outside) (k .says) ∙ sym (step-between s name f next (skip-outside s name f g k)) in
+        sym (step-first r (skip-going s name f g k) refl refl) ∙ step-first (k .reached) (turned-going s name f g k) same refl
 
     -- ---- over all turns
 
     only-skips : OnlySkips s f (takings s name f g)
     only-skips = by-turns s name f g sound (λ st ts. OnlySkips s f ts) record {
       at-end = λ m. tt;
-      over-skip = λ {st} k h. let p = skips-there s name f st (k .turn) in (p .0, refl, p .1, h);
-      over-give = λ k none h. h;
-      over-carry = λ k h. h;
+      over-skip = λ {st} k h. let p = skips-there s name f st (k .says) in (p .0, refl, p .1, h);
+      over-item = λ k none h. h;
+      over-piece = λ k h. h;
     }
 
     forward : Forward (g .offset) (spans-in (takings s name f g))
@@ -186,24 +184,24 @@ module _ (s name f : Bytes) (g : State) where
     forward = by-turns s name f g sound (λ st ts. Forward (st .offset) (spans-in ts)) record {
       at-end = λ m. tt;
       over-skip = λ {st} {next} {ts} k h. earlier (st .offset) (spans-in ts) (skip-forward s name f g k) h;
-      over-give = λ {st} {t} {ts} k none h. placed-forward (spans-in ts) (give-placed s name f g sound k) h;
-      over-carry = λ {st} {ts} k h. placed-forward (spans-in ts) (carry-placed s name f g sound k) h;
+      over-item = λ {st} {t} {ts} k none h. placed-forward (spans-in ts) (item-placed s name f g sound k) h;
+      over-piece = λ {st} {ts} k h. placed-forward (spans-in ts) (piece-placed s name f g sound k) h;
     }
 
     covers : Covers g (takings s name f g)
     covers = by-turns s name f g sound Covers record {
       at-end = covers-end;
-      over-skip = λ k c. let z = skip-mode s name f g k in covers-skip _ (skip-forward s name f g k) (λ w. absurd (omega arith)) c;
-      over-give = λ k none c. covers-given (give-placed s name f g sound k) none c;
-      over-carry = λ k c. covers-given (carry-placed s name f g sound k) (λ w. absurd (carry-goes-on s name f g sound k w)) c;
+      over-skip = λ k c. covers-skip _ (skip-forward s name f g k) (skip-going s name f g k) c;
+      over-item = λ k none c. covers-given (item-placed s name f g sound k) none c;
+      over-piece = λ k c. covers-given (piece-placed s name f g sound k) (λ m. absurd (piece-next s name f g sound k m)) c;
     }
 
     ends : Ends g (takings s name f g)
     ends = by-turns s name f g sound Ends record {
       at-end = λ m n. absurd (n m);
-      over-skip = λ k h _. let z = skip-mode s name f g k in last-after (skipped _ _ _) (h (λ w. absurd (omega arith)));
-      over-give = λ k none h _. give-ends k none h;
-      over-carry = λ k h _. last-after (gave _ _) (h (carry-goes-on s name f g sound k));
+      over-skip = λ k h _. last-after (skipped _ _ _) (h (skip-going s name f g k));
+      over-item = λ k none h _. item-ends k none h;
+      over-piece = λ k h _. last-after (gave _ _) (h (piece-next s name f g sound k));
     }
 
     items : steps-in (takings s name f g) ≡ steps-of s name f g
@@ -211,8 +209,8 @@ module _ (s name f : Bytes) (g : State) where
     items = by-turns s name f g sound (λ st ts. steps-in ts ≡ steps-of s name f st) record {
       at-end = λ {st} m. sym (steps-of-end s name f st m);
       over-skip = λ k h. h ∙ skip-same k;
-      over-give = λ {st} k none h. let m = k .mode in step-first (k .reached) (λ w. absurd (omega arith)) (turn-step st m (k .turn)) h;
-      over-carry = λ {st} k h. let m = k .mode in step-first (k .reached) (λ w. absurd (omega arith)) (step-inside s name f st m) h;
+      over-item = λ {st} k none h. step-first (k .reached) (turned-going s name f g k) (turn-step s name f st (k .outside) (k .says)) h;
+      over-piece = λ {st} k h. step-first (k .reached) (carried-going s name f g k) (step-inside s name f st (k .inside)) h;
     }
 
     -- From a sound state on nothing is lost between items.

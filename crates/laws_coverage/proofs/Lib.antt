@@ -1,5 +1,6 @@
--- `Turns` is the induction over the turns of a reading; `Parts` is where the bytes stand that each takes, `Skips` what is skipped, `Counting`
--- how bytes are counted. `Law` is that nothing is lost between items, `Records` the same over the records of runs, `Cases` the computed table.
+-- `Turns` is the induction over the turns of a reading; `Parts` is where the bytes stand that each takes, `Skips` what is skipped,
+-- `Counting` how bytes are counted. `Law` is that nothing is lost between items, `Records` the same over the records of runs, `Cases` the
+-- computed table.
 pub mod Turns
 pub mod Parts
 pub mod Skips

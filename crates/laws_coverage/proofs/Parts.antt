@@ -4,17 +4,15 @@ use Prim.Native.Nat.{_≤_}
 use mathlib.Core.Path.{_≡_, refl, subst, _∙_}
 use mathlib.Core.Logic.{inl, inr}
 use native.Mathlib.Omega.{arith}
-use lib.Dec.{eqb}
 use lib.ListN.{length}
-use borrow.Author.Tests.{eqb-true, eqb-false}
-use Rattle.definition.specs.Basics.{Bytes}
+use Rattle.definition.specs.Basics.{Bytes, again, done}
 use Rattle.definition.specs.Select.{select}
 use Rattle.definition.specs.Item.{Step}
 use Rattle.definition.specs.Comment.{comment}
 use Rattle.definition.specs.Token.{act, token-turn}
 use Rattle.definition.specs.declared.State.{State}
 use Rattle.lemmas.proofs.Loops.{Leads, leads-map, Any}
-use Rattle.lemmas.proofs.Cases.{by-outcome, by-le}
+use Rattle.lemmas.proofs.Cases.{by-equal, by-le}
 use Rattle.state.specs.Sound.{Stands}
 use Rattle.laws_run.proofs.Moving.{stands-within}
 use Rattle.laws_run.proofs.Paths.{path-reads}
@@ -22,7 +20,7 @@ use Rattle.laws_run.proofs.FormLaws.{piece-goes-on, form-last}
 use Rattle.laws_run.proofs.ItemSpans.{Span, piece-span, form-span, turn-span}
 use Rattle.laws_run.proofs.Steps.{act-says, reached-stands}
 use Rattle.laws_coverage.specs.Coverage.{EofOrFailed}
-use Rattle.laws_coverage.proofs.Turns.{Skip, Give, Carry, skip-goes, carry-piece}
+use Rattle.laws_coverage.proofs.Turns.{Turned, Carried, turned-keeps, carried-piece}
 
 -- an item given at st begins there, if the reading goes on after it, and is empty if not; it ends where the state after it stands
 pub record Placed (st : State) (t : Step) : Type 0 where
@@ -40,9 +38,9 @@ placed st t p is-empty = record { to = p .to; begins = order .0; ordered = order
 
     order : (st .offset ≤ t .item .from) × (t .item .from ≤ t .item .to)
     order =
-        by-outcome (eqb (t .next .mode) 2)
-        (λ e. let q = is-empty (eqb-true (t .next .mode) 2 e) in (omega (arith, p .to, p .forward), omega arith))
-        (λ e. let q = goes-on (eqb-false (t .next .mode) 2 e) in (omega arith, omega (arith, p .to, p .forward)))
+        by-equal (t .next .mode) 2
+        (λ m. let q = is-empty m in (omega (arith, p .to, p .forward), omega arith))
+        (λ n. let q = goes-on n in (omega arith, omega (arith, p .to, p .forward)))
 
 -- what holds of the last item that is given at st
 abbrev pub IfLast : Bytes → State → Step → Type 0
@@ -58,26 +56,30 @@ turn-last s name f st h m =
     (act s name f st (select s f (st .offset))) (act-says s name f st (omega arith)))
 
 module _ (s name f : Bytes) (g : State) where
-  -- Reading goes on ahead of what is skipped, outside a comment.
-  module _ {st next : State} (k : Skip s name f g st next) where
+  -- After what is skipped reading goes on, further ahead and outside a comment.
+  module _ {st next : State} (k : Turned s name f g st (again next)) where
     pub skip-forward : st .offset ≤ next .offset
-    skip-forward = path-reads (skip-goes s name f g k .path) .ahead .forward
+    skip-forward = path-reads (turned-keeps s name f g k .path) .ahead .forward
 
-    pub skip-mode : next .mode ≡ 0
-    skip-mode = path-reads (skip-goes s name f g k .path) .mode ∙ k .mode
+    pub skip-outside : next .mode ≡ 0
+    skip-outside = path-reads (turned-keeps s name f g k .path) .mode ∙ k .outside
+
+    pub skip-going : next .mode ≡ 2 → ⊥
+    skip-going m = let o = skip-outside in absurd (omega arith)
 
   module _ (sound : Stands s g) where
     -- An item of a choice.
-    pub give-last : {st : State} {t : Step} → Give s name f g st t → IfLast s st t
-    give-last {st} k = subst (Leads Any (IfLast s st)) (k .turn) (turn-last s name f st (reached-stands s name f (k .reached) sound) (k .mode))
+    module _ {st : State} {t : Step} (k : Turned s name f g st (done t)) where
+      pub item-last : IfLast s st t
+      item-last = subst (Leads Any (IfLast s st)) (k .says) (turn-last s name f st (reached-stands s name f (k .reached) sound) (k .outside))
 
-    pub give-placed : {st : State} {t : Step} → Give s name f g st t → Placed st t
-    give-placed {st} {t} k = placed st t (subst (Leads Any (Span st)) (k .turn) (turn-span s name f st)) (λ q. give-last k q .0)
+      pub item-placed : Placed st t
+      item-placed = placed st t (subst (Leads Any (Span st)) (k .says) (turn-span s name f st)) (λ m. item-last m .0)
 
     -- A later piece of a comment, after which reading goes on.
-    module _ {st : State} (k : Carry s name f g st) where
-      pub carry-goes-on : comment s (st .offset) st .next .mode ≡ 2 → ⊥
-      carry-goes-on = piece-goes-on (reached-stands s name f (k .reached) sound .sound .opened (k .mode)) (carry-piece s name f g k)
+    module _ {st : State} (k : Carried s name f g st) where
+      pub piece-next : comment s (st .offset) st .next .mode ≡ 2 → ⊥
+      piece-next = piece-goes-on (reached-stands s name f (k .reached) sound .sound .opened (k .inside)) (carried-piece s name f g k)
 
-      pub carry-placed : Placed st (comment s (st .offset) st)
-      carry-placed = placed st _ (piece-span (carry-piece s name f g k) (omega arith)) (λ q. absurd (carry-goes-on q))
+      pub piece-placed : Placed st (comment s (st .offset) st)
+      piece-placed = placed st _ (piece-span (carried-piece s name f g k) (omega arith)) (λ m. absurd (piece-next m))

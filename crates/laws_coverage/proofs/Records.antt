@@ -1,5 +1,5 @@
--- The records that runs write have the spans of what the reading takes, however the runs are split; so document 02's K4 holds of them. Rests
--- on the law of coverage (Law) and on the laws of split runs (crate `laws_run`, Laws).
+-- The records that runs write have the spans of what the reading takes, however the runs are split; so document 02's K4 holds of them.
+-- Rests on the law of coverage (Law) and on the laws of split runs (crate `laws_run`, Laws).
 use Prim.Native.Nat.{ℕ, _+_, _<_}
 use mathlib.Core.Path.{_≡_, refl, sym, ap, ap₂, subst, _∙_}
 use mathlib.Core.List.{List, [], _∷_, _++_, map, map-append}
@@ -103,7 +103,7 @@ module _ (s name f : Bytes) where
       written-last =
           written
           ∙ ap (λ (us : List Taking). map told (steps-in us)) (the-last .is-last)
-          ∙ ap (map told) (steps-last (the-last .before) (the-last .at .offset) (the-last .t))
+          ∙ ap (map told) (steps-last (the-last .before) (the-last .st .offset) (the-last .t))
           ∙ map-append told (steps-in (the-last .before)) (the-last .t ∷ [])
 
       last-is : last-kind 0 l ≡ the-last .t .item .kind
@@ -120,15 +120,15 @@ module _ (s name f : Bytes) where
       eof = λ h b k.
           let n = has-last (λ z. eof-kind .0 (sym h ∙ z)) in
           let x = the-last n in
-          let ends : x .at .offset ≡ length s = ⊎-elim (λ q. q .1) (λ q. absurd (eof-kind .1 (sym h ∙ last-is n ∙ q .0))) (x .ends) in
+          let ends : x .st .offset ≡ length s = ⊎-elim (λ q. q .1) (λ q. absurd (eof-kind .1 (sym h ∙ last-is n ∙ q .0))) (x .ends) in
           counted-below first b (omega (arith, x .limited, ends));
       error = λ h.
           let n = has-last (λ z. error-kind (sym h ∙ z)) in
           let x = the-last n in
           record {
-            at = x .at;
+            st = x .st;
             reached = x .reached;
-            mode = x .mode;
+            outside = x .outside;
             within = ⊎-elim (λ q. absurd (eof-kind .1 (sym (q .0) ∙ sym (last-is n) ∙ h))) (λ q. q .1) (x .ends);
             t = x .t;
             gives = x .gives;
@@ -137,5 +137,6 @@ module _ (s name f : Bytes) where
             is-last = written-last n;
             once = λ b k. counted-below first b (omega (arith, x .limited));
           };
+      skips = covering g taken .skips;
       forward = subst (Forward 0) (sym whole-spans) (subst (λ (o : ℕ). Forward o (spans-in (takings s name f g))) first (covering g taken .forward));
     }

@@ -1,5 +1,5 @@
--- The turns of a reading, one by one: what holds at its end, and is carried back over each turn, holds of all that the reading takes. So the
--- fuel of `takings` is enough. Rests on what every turn keeps (crate `laws_run`, Steps): each leaves less to read.
+-- The turns of a reading, one by one: what holds at its end, and is carried back over each turn, holds of all that the reading takes. So
+-- the fuel of `takings` is enough. Rests on what every turn keeps (crate `laws_run`, Steps): each leaves less to read.
 use Prim.Native.Nat.{ℕ, zero, suc, _<_}
 use mathlib.Core.Path.{_≡_, refl, ap, subst}
 use mathlib.Core.List.{List, [], _∷_}
@@ -26,46 +26,49 @@ use Rattle.laws_run.proofs.CommentReader.{comment-piece}
 use Rattle.laws_run.proofs.Steps.{zero-outside, turn-keeps, reached-stands}
 use Rattle.laws_coverage.specs.Coverage.{Taking, skipped, gave, turns, takings}
 
+-- at the end there are no turns
+turns-end : (s name f : Bytes) (n : ℕ) (st : State) → st .mode ≡ 2 → turns s name f n st ≡ []
+unfolding turns
+turns-end s name f zero st m = refl
+turns-end s name f (suc n) st m = simp (eq-eqb (st .mode) 2 m, turns)
+
 module _ (s name f : Bytes) (g : State) where
-  -- ---- the three turns of a reading that begins from g
+  -- ---- the turns of a reading that begins from g
 
-  -- at st something is skipped, and reading goes on at `next`
-  pub record Skip (st next : State) : Type 0 where
+  -- it comes to st, outside a comment, and the turn there says x: something is skipped, or an item is given
+  pub record Turned (st : State) (x : Token-turn) : Type 0 where
     pub reached : Reached s name f g st
-    pub mode : st .mode ≡ 0
-    pub turn : token-turn s name f st ≡ again next
+    pub outside : st .mode ≡ 0
+    pub says : token-turn s name f st ≡ x
 
-  -- at st an item is given
-  pub record Give (st : State) (t : Step) : Type 0 where
+  -- it comes to st, in a comment, whose next piece is given
+  pub record Carried (st : State) : Type 0 where
     pub reached : Reached s name f g st
-    pub mode : st .mode ≡ 0
-    pub turn : token-turn s name f st ≡ done t
+    pub inside : st .mode ≡ 1
 
-  -- st is in a comment, whose next piece is given
-  pub record Carry (st : State) : Type 0 where
-    pub reached : Reached s name f g st
-    pub mode : st .mode ≡ 1
+  -- what they keep
+  pub turned-keeps : {st : State} {x : Token-turn} → Turned st x → Leads (Goes s (Unit {0}) st) (Kept s name st) x
+  turned-keeps {st} k = subst (Leads (Goes s (Unit {0}) st) (Kept s name st)) (k .says) (turn-keeps s name f st (zero-outside (k .outside)))
 
-  -- ---- what they keep
+  pub carried-piece : {st : State} → Carried st → Piece s (st .offset) st (comment s (st .offset) st)
+  carried-piece {st} k = comment-piece s (st .offset) st (omega arith) (k .inside)
 
-  pub skip-goes : {st next : State} → Skip st next → Goes s (Unit {0}) st next
-  skip-goes {st} k = subst (Leads (Goes s (Unit {0}) st) (Kept s name st)) (k .turn) (turn-keeps s name f st (zero-outside (k .mode)))
+  -- the reading hasn't ended there
+  pub turned-going : {st : State} {x : Token-turn} → Turned st x → st .mode ≡ 2 → ⊥
+  turned-going k m = let o = k .outside in absurd (omega arith)
 
-  give-kept : {st : State} {t : Step} → Give st t → Kept s name st t
-  give-kept {st} k = subst (Leads (Goes s (Unit {0}) st) (Kept s name st)) (k .turn) (turn-keeps s name f st (zero-outside (k .mode)))
+  pub carried-going : {st : State} → Carried st → st .mode ≡ 2 → ⊥
+  carried-going k m = let o = k .inside in absurd (omega arith)
 
-  pub carry-piece : {st : State} → Carry st → Piece s (st .offset) st (comment s (st .offset) st)
-  carry-piece {st} k = comment-piece s (st .offset) st (omega arith) (k .mode)
-
-  -- a fact of a state that the reading comes to and of what is taken from there on: it holds at the end, and is carried back over each turn.
-  -- After an item that is the last nothing is taken
+  -- a fact of a state that the reading comes to and of what is taken from there on: it holds at the end, and is carried back over each
+  -- turn. After an item that is the last nothing is taken
   pub record CarriedBack (P : State → List Taking → Type 0) : Type 0 where
     pub at-end : {st : State} → st .mode ≡ 2 → P st []
-    pub over-skip : {st next : State} {ts : List Taking} → Skip st next → P next ts
+    pub over-skip : {st next : State} {ts : List Taking} → Turned st (again next) → P next ts
         → P st (skipped (select s f (st .offset) .place) (st .offset) (next .offset) ∷ ts)
-    pub over-give : {st : State} {t : Step} {ts : List Taking} → Give st t → (t .next .mode ≡ 2 → ts ≡ []) → P (t .next) ts
+    pub over-item : {st : State} {t : Step} {ts : List Taking} → Turned st (done t) → (t .next .mode ≡ 2 → ts ≡ []) → P (t .next) ts
         → P st (gave (st .offset) t ∷ ts)
-    pub over-carry : {st : State} {ts : List Taking} → Carry st → P (comment s (st .offset) st .next) ts
+    pub over-piece : {st : State} {ts : List Taking} → Carried st → P (comment s (st .offset) st .next) ts
         → P st (gave (st .offset) (comment s (st .offset) st) ∷ ts)
 
   module _ (sound : Stands s g) where
@@ -75,29 +78,23 @@ module _ (s name f : Bytes) (g : State) where
 
     -- ---- each turn leaves less to read
 
-    skip-left : {st next : State} → Skip st next → left s next < left s st
+    skip-left : {st next : State} → Turned st (again next) → left s next < left s st
     skip-left {st} {next} k =
-        let v = skip-goes k in
+        let v = turned-keeps k in
         let q = path-reads (v .path) in
         let w : awake (next .mode) ≡ awake (st .mode) = ap awake (q .mode) in
         omega (arith, w, q .less (stands-within (stands (k .reached))), v .moves tt)
 
-    give-left : {st : State} {t : Step} → Give st t → left s (t .next) < left s st
-    give-left {st} k = let m = k .mode in omega (arith, give-kept k .gives .less, awake-yet (st .mode) (λ q. absurd (omega arith)))
+    item-left : {st : State} {t : Step} → Turned st (done t) → left s (t .next) < left s st
+    item-left {st} k = omega (arith, turned-keeps k .gives .less, awake-yet (st .mode) (turned-going k))
 
-    carry-left : {st : State} → Carry st → left s (comment s (st .offset) st .next) < left s st
-    carry-left {st} k =
-        let m = k .mode in
-        let p : Kept s name st (comment s (st .offset) st) = piece-kept (stands (k .reached) .sound .opened m) m (carry-piece k) in
-        omega (arith, p .gives .less, awake-yet (st .mode) (λ q. absurd (omega arith)))
+    piece-left : {st : State} → Carried st → left s (comment s (st .offset) st .next) < left s st
+    piece-left {st} k =
+        let m = k .inside in
+        let p : Kept s name st (comment s (st .offset) st) = piece-kept (stands (k .reached) .sound .opened m) m (carried-piece k) in
+        omega (arith, p .gives .less, awake-yet (st .mode) (carried-going k))
 
     -- ---- all turns
-
-    -- at the end there are none
-    turns-end : (n : ℕ) (st : State) → st .mode ≡ 2 → turns s name f n st ≡ []
-    unfolding turns
-    turns-end zero st m = refl
-    turns-end (suc n) st m = simp (eq-eqb (st .mode) 2 m, turns)
 
     module _ {P : State → List Taking → Type 0} (c : CarriedBack P) where
       from-turns : (n : ℕ) (st : State) → Reached s name f g st → left s st < n → P st (turns s name f n st)
@@ -116,16 +113,16 @@ module _ (s name f : Bytes) (g : State) where
           outside : Rest → st .mode ≡ 0 → (x : Token-turn) → token-turn s name f st ≡ x
               → Both (elim x [ again next ↦ (skipped (select s f (st .offset) .place) (st .offset) (next .offset), next) | done t ↦ (gave (st .offset) t, t .next) ])
           outside rest m (again next) e =
-              let k : Skip st next = record { reached = r; mode = m; turn = e } in
+              let k : Turned st (again next) = record { reached = r; outside = m; says = e } in
               c .over-skip k (rest next (reached-skipped r m e) (omega (arith, skip-left k)))
           outside rest m (done t) e =
-              let k : Give st t = record { reached = r; mode = m; turn = e } in
-              c .over-give k (turns-end n (t .next)) (rest (t .next) (reached-gave r m e) (omega (arith, give-left k)))
+              let k : Turned st (done t) = record { reached = r; outside = m; says = e } in
+              c .over-item k (turns-end s name f n (t .next)) (rest (t .next) (reached-gave r m e) (omega (arith, item-left k)))
 
           inside : Rest → st .mode ≡ 1 → Both (gave (st .offset) (comment s (st .offset) st), comment s (st .offset) st .next)
           inside rest m =
-              let k : Carry st = record { reached = r; mode = m } in
-              c .over-carry k (rest _ (carried r m) (omega (arith, carry-left k)))
+              let k : Carried st = record { reached = r; inside = m } in
+              c .over-piece k (rest _ (carried r m) (omega (arith, piece-left k)))
 
           go : Rest → P st (turns s name f (suc n) st)
           go rest =

@@ -1,5 +1,5 @@
--- The table of K4: texts with what their reading takes, in order, and the limit up to which each byte is counted. proofs/Cases.antt computes
--- that the definition gives them, with the class file of no ranges.
+-- The table of K4: texts with what their reading takes, in order, and the limit up to which each byte is counted. proofs/Cases.antt
+-- computes that the definition gives them, with the class file of no ranges.
 use Prim.Native.Nat.{ℕ}
 use Prim.Native.String.{String}
 use mathlib.Core.List.{List, [], _∷_, _++_, map}

@@ -20,15 +20,15 @@ use Rattle.definition.specs.declared.State.{State}
 
 -- ---- what the reading takes
 
--- in one turn: what a choice of that place passes, from its first byte up to where reading goes on; or an item, whose choice was made, or
--- whose piece of a comment begun, at byte `at`
+-- in one turn: what a choice of that place passes, from its first byte up to where reading goes on; or an item, and the byte `at` where
+-- its choice was made or, in a comment, where the item begins
 pub data Taking : Type 0 where
   skipped : (place from to : ℕ) → Taking
   gave : (at : ℕ) (t : Step) → Taking
 
 -- the turn from st, and the state after it: in a comment its next piece, elsewhere one call of `next_token`
-abbrev pub taken : Bytes → Bytes → Bytes → State → Taking × State
-taken s name f st =
+abbrev pub one-turn : Bytes → Bytes → Bytes → State → Taking × State
+one-turn s name f st =
     let i = st .offset in
     elim (eqb (st .mode) 1) [
       | true ↦ let t = comment s i st in (gave i t, t .next)
@@ -44,7 +44,7 @@ turns s name f zero st = []
 turns s name f (suc n) st =
     elim (eqb (st .mode) 2) [
       | true ↦ []
-      | false ↦ let t = taken s name f st in t .0 ∷ turns s name f n (t .1)
+      | false ↦ let t = one-turn s name f st in t .0 ∷ turns s name f n (t .1)
     ]
 
 -- all of them: there are never so many, since each but the last reads a byte or more or leaves a level of a comment (proofs/Turns.antt)
@@ -53,7 +53,7 @@ takings s name f g = turns s name f (most-items s g) g
 
 -- ---- the parts of the text that were taken
 
--- the bytes from the first number up to the second, which is the first that isn't
+-- the bytes from the first number on that are below the second
 abbrev pub Part : Type 0
 Part = ℕ × ℕ
 
@@ -91,8 +91,9 @@ held b (p ∷ ps) = in-part b p + held b ps
 abbrev pub times : ℕ → List Taking → ℕ
 times b ts = held b (spans-in ts) + held b (skips-in ts)
 
--- the byte up to which it is counted: where the last item's choice was made; o if there is no item. So it is the text's end if that item is
--- EOF, and "the first byte of the choice that failed" if it is an ERROR. No record of error 1, 2 or 7 has it: these sit further on
+-- the byte up to which bytes are counted: where the choice of the last item was made; o if there is no item. So it is the text's end if
+-- that item is EOF, and "the first byte of the choice that failed" if it is an ERROR. No record of error 1, 2 or 7 has it: these sit
+-- further on
 unfoldable pub limit : ℕ → List Taking → ℕ
 limit o [] = o
 limit o (skipped place from to ∷ ts) = limit o ts
@@ -116,22 +117,22 @@ abbrev pub Forward : ℕ → List Part → Type 0
 Forward o [] = Unit {0}
 Forward o ((from, to) ∷ ps) = (o ≤ from) × (from ≤ to) × Forward to ps
 
--- t, given at `at`, is EOF, and the text has ended there; or it is an ERROR, and the choice there failed
+-- t, which is given at the state st, is EOF, and the text has ended there; or it is an ERROR, and the choice there failed
 abbrev pub EofOrFailed : Bytes → State → Step → Type 0
-EofOrFailed s at t =
-    ((t .item .kind ≡ kind "EOF") × (at .offset ≡ length s)) ⊎ ((t .item .kind ≡ kind "ERROR") × (at .offset < length s))
+EofOrFailed s st t =
+    ((t .item .kind ≡ kind "EOF") × (st .offset ≡ length s)) ⊎ ((t .item .kind ≡ kind "ERROR") × (st .offset < length s))
 
--- what is taken last is such an item; a run comes to where it is given, and that is the limit
+-- what is taken last is such an item; a run comes to the state where it is given, outside a comment, and the limit is there
 pub record Last (s name f : Bytes) (g : State) (ts : List Taking) : Type 0 where
   pub before : List Taking
-  pub at : State
+  pub st : State
   pub t : Step
-  pub is-last : ts ≡ before ++ (gave (at .offset) t ∷ [])
-  pub reached : Reached s name f g at
-  pub mode : at .mode ≡ 0
-  pub gives : token-turn s name f at ≡ done t
-  pub ends : EofOrFailed s at t
-  pub limited : limit (g .offset) ts ≡ at .offset
+  pub is-last : ts ≡ before ++ (gave (st .offset) t ∷ [])
+  pub reached : Reached s name f g st
+  pub outside : st .mode ≡ 0
+  pub gives : token-turn s name f st ≡ done t
+  pub ends : EofOrFailed s st t
+  pub limited : limit (g .offset) ts ≡ st .offset
 
 pub record NothingLost (s name f : Bytes) (g : State) : Type 0 where
   -- "every byte is counted once and only once", from where the reading begins up to the limit; no byte outside is counted

@@ -1,5 +1,5 @@
--- K4 in document 02's words, over the records that runs wrote into their buffers, however they were split. s is the text, name the file's name,
--- f the class file, g the state that the first run was given, l what the runs wrote (crate `laws_run`, specs/Split.antt).
+-- K4 in document 02's words, over the records that runs wrote into their buffers, however they were split. s is the text, name the file's
+-- name, f the class file, g the state that the first run was given, l what the runs wrote (crate `laws_run`, specs/Split.antt).
 use Prim.Native.Nat.{ℕ, _+_, _<_}
 use mathlib.Core.Path.{_≡_}
 use mathlib.Core.List.{List, [], _∷_, _++_, map}
@@ -12,7 +12,7 @@ use Rattle.definition.specs.Token.{token-turn}
 use Rattle.definition.specs.Items.{Told, told}
 use Rattle.definition.specs.Reading.{Reached}
 use Rattle.definition.specs.declared.State.{State}
-use Rattle.laws_coverage.specs.Coverage.{takings, Part, skips-in, held, Forward}
+use Rattle.laws_coverage.specs.Coverage.{takings, Part, skips-in, held, OnlySkips, Forward}
 
 -- ---- what the records say
 
@@ -34,19 +34,19 @@ counted s name f g l b = held b (told-spans l) + held b (skips-in (takings s nam
 
 -- ---- what holds of a text that is read from its first byte to its end
 
--- "A text that ends in ERROR is covered likewise up to the first byte of the choice that failed": a run comes to that choice, and it gives the
--- ERROR that is written last
+-- "A text that ends in ERROR is covered likewise up to the first byte of the choice that failed": a run comes to the state st where that
+-- choice was made, and the ERROR that it gives is written last
 pub record UpToFailed (s name f : Bytes) (g : State) (l : List Told) : Type 0 where
-  pub at : State
-  pub reached : Reached s name f g at
-  pub mode : at .mode ≡ 0
-  pub within : at .offset < length s
+  pub st : State
+  pub reached : Reached s name f g st
+  pub outside : st .mode ≡ 0
+  pub within : st .offset < length s
   pub t : Step
-  pub gives : token-turn s name f at ≡ done t
+  pub gives : token-turn s name f st ≡ done t
   pub fails : t .item .kind ≡ kind "ERROR"
   pub before : List Told
   pub is-last : l ≡ before ++ (told t ∷ [])
-  pub once : (b : ℕ) → b < at .offset → counted s name f g l b ≡ 1
+  pub once : (b : ℕ) → b < st .offset → counted s name f g l b ≡ 1
 
 pub record Covered (s name f : Bytes) (g : State) (l : List Told) : Type 0 where
   -- the last item is EOF or ERROR, unless the first run was given a state that has ended
@@ -55,5 +55,7 @@ pub record Covered (s name f : Bytes) (g : State) (l : List Told) : Type 0 where
   -- `// IN F*:` rule took"
   pub eof : last-kind 0 l ≡ kind "EOF" → (b : ℕ) → b < length s → counted s name f g l b ≡ 1
   pub error : last-kind 0 l ≡ kind "ERROR" → UpToFailed s name f g l
+  -- what was skipped is what these three rules took
+  pub skips : OnlySkips s f (takings s name f g)
   -- "Spans never go backwards"
   pub forward : Forward 0 (told-spans l)

@@ -4,9 +4,7 @@
 use Prim.Native.Nat.{_<_}
 use mathlib.Core.Path.{_≡_, refl, subst}
 use native.Mathlib.Omega.{arith}
-use lib.Dec.{eqb}
 use lib.ListN.{length}
-use borrow.Author.Tests.{eqb-true, eqb-false}
 use Rattle.definition.specs.Basics.{Bytes, Turn, again, done}
 use Rattle.definition.specs.Kinds.{kind}
 use Rattle.definition.specs.Rules.{place-rules, chosen-rule}
@@ -17,7 +15,7 @@ use Rattle.definition.specs.Run.{refusal}
 use Rattle.definition.specs.Reading.{Gives-error, RightChoice, EveryReading}
 use Rattle.definition.specs.declared.Choice.{Choice}
 use Rattle.definition.specs.declared.State.{State}
-use Rattle.lemmas.proofs.Cases.{by-outcome, by-le}
+use Rattle.lemmas.proofs.Cases.{by-equal, by-le}
 use Rattle.state.specs.Sound.{Stands}
 use Rattle.laws_longest.proofs.Law.{select-longest}
 use Rattle.laws_run.proofs.Paths.{Goes}
@@ -31,13 +29,11 @@ use Rattle.laws_run.proofs.Refusals.{run-stands}
 module _ (s name f : Bytes) where
   -- an item that is no ERROR, read in mode 0 before the text's end: something is left to read less, since the reading isn't over and no
   -- level was open
-  item-moves : (st : State) (t : Step) → Stands s st → st .mode ≡ 0 → Gives s st t → (t .next .mode ≡ 2 → t .item .kind ≡ kind "ERROR") → (t .item .kind ≡ kind "ERROR" → ⊥)
-      → st .offset < t .next .offset
+  item-moves : (st : State) (t : Step) → Stands s st → st .mode ≡ 0 → Gives s st t → (t .next .mode ≡ 2 → t .item .kind ≡ kind "ERROR")
+      → (t .item .kind ≡ kind "ERROR" → ⊥) → st .offset < t .next .offset
   item-moves st t h m g last n =
       let d : st .depth ≡ 0 = h .sound .level (λ q. absurd (omega arith)) in
-      by-outcome (eqb (t .next .mode) 2)
-      (λ q. absurd (n (last (eqb-true (t .next .mode) 2 q))))
-      (λ q. omega (arith, g .less, awake-yet (t .next .mode) (eqb-false (t .next .mode) 2 q)))
+      by-equal (t .next .mode) 2 (λ q. absurd (n (last q))) (λ q. omega (arith, g .less, awake-yet (t .next .mode) q))
 
   module _ (st : State) (l : st .offset < length s) where
     c : Choice

@@ -4,15 +4,13 @@ use Prim.Native.Nat.{ℕ, _+_, _*_, _≤_}
 use mathlib.Core.Path.{_≡_, sym, ap, subst, _∙_}
 use mathlib.Core.List.{List, [], _∷_, _++_, map, map-append}
 use native.Mathlib.Omega.{arith}
-use lib.Dec.{eqb}
 use lib.ListN.{length, length-append}
-use borrow.Author.Tests.{eqb-true, eqb-false}
 use Rattle.definition.specs.Basics.{Bytes}
 use Rattle.definition.specs.Item.{Step, record-size}
 use Rattle.definition.specs.Run.{Outcome, most-items}
 use Rattle.definition.specs.declared.State.{State}
 use Rattle.lemmas.specs.Over.{over}
-use Rattle.lemmas.proofs.Cases.{by-outcome}
+use Rattle.lemmas.proofs.Cases.{by-equal}
 use Rattle.lemmas.proofs.Each.{Each, none-left, _⨾_}
 use Rattle.laws_run.specs.Left.{Opened}
 use Rattle.laws_run.specs.Budget.{budget}
@@ -52,7 +50,7 @@ module _ (s name f : Bytes) where
     -- Where the records' buffer has a record for each turn and the payload's the budget, neither is full before the end.
     pub done-whole : length name ≤ 4096 → Finished s name f st rs ps o → record-size * most-items s st ≤ length rs → budget s st ≤ length ps
         → o .0 .state .mode ≡ 2
-    done-whole named e r p = by-outcome (eqb (b .mode) 2) (λ t. eqb-true (b .mode) 2 t) (λ t. absurd (short (eqb-false (b .mode) 2 t)))
+    done-whole named e r p = by-equal (b .mode) 2 (λ m. m) (λ n. absurd (short n))
       where
         b : State
         b = o .0 .state
@@ -76,8 +74,6 @@ module _ (s name f : Bytes) where
 
         short : (b .mode ≡ 2 → ⊥) → ⊥
         short n =
-            by-outcome (eqb stop 0) (λ t. n (d .stops .at-end .0 (eqb-true stop 0 t))) λ t.
-            by-outcome (eqb stop 1) (λ u. records-full n (eqb-true stop 1 u)) λ u.
-            let x : stop ≡ 0 → ⊥ = eqb-false stop 0 t in
-            let y : stop ≡ 1 → ⊥ = eqb-false stop 1 u in
+            by-equal stop 0 (λ e. n (d .stops .at-end .0 e)) λ x.
+            by-equal stop 1 (records-full n) λ y.
             payload-full n (omega (arith, d .stops .one-of))

@@ -112,7 +112,7 @@ module _ {s : Bytes} {st : State} where
     pub piece-short : st .offset ≤ length s → length (t .payload) ≤ length s + 2
     piece-short l = subst (λ (x : Step). length (x .payload) ≤ length s + 2) (sym (p .is)) (omega (arith, p .small, r .ahead .within l))
 
-  -- leaving a level reads nothing
+  -- reading doesn't go back: leaving a level reads nothing
   pub piece-forward : {from : ℕ} {t : Step} → Piece s from st t → st .offset ≤ t .next .offset
   unfolding close-comment
   piece-forward p =

@@ -9,7 +9,7 @@ use mathlib.Core.List.{List, [], _∷_, _++_}
 use native.Mathlib.Omega.{arith}
 use lib.Dec.{eqb}
 use lib.ListN.{length, getD}
-use borrow.Author.Tests.{eqb-true, eqb-false}
+use borrow.Author.Tests.{eqb-true}
 use Rattle.definition.specs.Basics.{Bytes, Turn, again, done, fuel}
 use Rattle.definition.specs.Kinds.{kind}
 use Rattle.definition.specs.Item.{Step, error-here, extra-words, words}
@@ -20,7 +20,7 @@ use Rattle.definition.specs.declared.Item.{Item}
 use Rattle.definition.specs.declared.Extra.{Extra}
 use Rattle.definition.specs.declared.Extra.the-variants.{NoExtra, CharLit, Blob, LexError, Comment}
 use Rattle.lemmas.proofs.Loops.{Leads, leads-map, Falls, Any, loop-gives}
-use Rattle.lemmas.proofs.Cases.{by-test, by-outcome, by-le}
+use Rattle.lemmas.proofs.Cases.{by-test, by-equal, by-le}
 use Rattle.laws_progress.proofs.Walks.{rest}
 use Rattle.laws_run.proofs.Paths.{path-reads}
 use Rattle.laws_run.proofs.Forms.{nothing, code-point, Piece, Form, token, blob, line, opened, error, IsError}
@@ -139,7 +139,7 @@ module _ (s name f : Bytes) where
     -- what holds outside a comment and in one
     either-way : (P : Step → Type 0) → (Chosen st t → P t) → (st .mode ≡ 1 → P t) → P t
     either-way P outside inside =
-        by-outcome (eqb (st .mode) 1) (λ e. inside (eqb-true (st .mode) 1 e)) (λ e. outside (item-chosen st (eqb-false (st .mode) 1 e)))
+        by-equal (st .mode) 1 inside (λ n. outside (item-chosen st n))
 
     -- ---- the laws, over the numbers of the item's record
 

@@ -6,13 +6,13 @@ use mathlib.Core.List.{List, [], _∷_, _++_}
 use native.Mathlib.Omega.{arith}
 use lib.Dec.{eqb}
 use lib.ListN.{length}
-use borrow.Author.Tests.{eq-eqb, ne-eqb, eqb-true, eqb-false}
+use borrow.Author.Tests.{eq-eqb, ne-eqb}
 use Rattle.definition.specs.Basics.{Bytes}
 use Rattle.definition.specs.Item.{Step}
 use Rattle.definition.specs.Token.{step}
 use Rattle.definition.specs.Run.{most-items}
 use Rattle.definition.specs.declared.State.{State}
-use Rattle.lemmas.proofs.Cases.{by-outcome, by-test}
+use Rattle.lemmas.proofs.Cases.{by-equal, by-test}
 use Rattle.laws_run.specs.Left.{left, Opened}
 use Rattle.laws_run.proofs.FormLaws.{awake-small, awake-yet}
 use Rattle.laws_run.proofs.Steps.{step-kept}
@@ -44,10 +44,8 @@ module _ (s name f : Bytes) where
     where
       go : ((b : State) → Opened b → left s b < n → left s b < m → steps s name f n b ≡ steps s name f m b) → steps s name f (suc n) st ≡ steps s name f (suc m) st
       go same =
-          by-outcome (eqb (st .mode) 2)
-          (λ t. let e = eqb-true (st .mode) 2 t in steps-end (suc n) st e ∙ sym (steps-end (suc m) st e))
-          (λ t.
-          let e = eqb-false (st .mode) 2 t in
+          by-equal (st .mode) 2 (λ e. steps-end (suc n) st e ∙ sym (steps-end (suc m) st e))
+          (λ e.
           let l = step-left st o e in
           steps-on n st e
           ∙ ap (λ (ts : List Step). step s name f st ∷ ts) (same (step s name f st .next) (l .0) (omega (arith, l .1)) (omega (arith, l .1)))

@@ -3,8 +3,8 @@
 use Prim.Native.Nat.{ℕ, _≤_, _<_}
 use mathlib.Core.Path.{_≡_, refl, sym, ap, _∙_}
 use mathlib.Core.Bool.{Bool, true, false, not, _&&_, _||_, false≢true}
-use lib.Dec.{ltb, leb}
-use borrow.Author.Tests.{lt-ltb, le-ltb, le-leb, lt-leb, eq-eqb, ne-eqb, ltb-true, ltb-false, leb-true, leb-false}
+use lib.Dec.{ltb, leb, eqb}
+use borrow.Author.Tests.{lt-ltb, le-ltb, le-leb, lt-leb, eq-eqb, ne-eqb, ltb-true, ltb-false, leb-true, leb-false, eqb-true, eqb-false}
 use Rattle.definition.specs.Basics.{between, if_then_else_}
 use Rattle.definition.specs.declared.Match.{Match}
 use Rattle.definition.specs.declared.Match.the-variants.{To, Nothing}
@@ -33,6 +33,10 @@ module _ {X : Type 0} where
   -- of two numbers the first is below the second or not
   pub by-order : (a b : ℕ) → (a < b → X) → (b ≤ a → X) → X
   by-order a b f g = by-outcome (ltb a b) (λ e. f (ltb-true a b e)) (λ e. g (ltb-false a b e))
+
+  -- or they are equal or not
+  pub by-equal : (a b : ℕ) → (a ≡ b → X) → ((a ≡ b → ⊥) → X) → X
+  by-equal a b f g = by-outcome (eqb a b) (λ e. f (eqb-true a b e)) (λ e. g (eqb-false a b e))
 
 module _ {X : Type 0} (P : X → Type 0) where
   -- by a test

@@ -1,5 +1,5 @@
--- The whole run: refused, or its items. Rests on what a run that isn't refused was given, and on the laws of what it does, of what is counted
--- of its text (K4) and of demand 3.
+-- The whole run: refused, or its items. Rests on what a run that isn't refused was given, and on the laws of what it does, of what is
+-- counted of its text (K4) and of demand 3.
 use Prim.Native.Nat.{ℕ}
 use mathlib.Core.Path.{_≡_, refl, sym, ap, subst, _∙_}
 use mathlib.Core.List.{List}

@@ -1,7 +1,7 @@
--- What `run` promises: the three demands, a definition each, and what document 02 adds to demand 2, which its contract (src/lib.rt) cites;
--- docs/CONTRACTS.md has their sentences.
+-- What `run` promises: the three demands, a definition each, and document 02's K4, which joins demand 2. Its contract (src/lib.rt) cites
+-- them; docs/CONTRACTS.md has their sentences.
 -- s is the text, name the file's name, f the class file, st the saved state, rs and ps the buffers lent for records and for payload, all as
--- the run is given them. o is the run's outcome: its answer, and both buffers as it leaves them.
+-- the run is given them. o is the run's outcome: its answer r, and both buffers as it leaves them.
 use mathlib.Core.Path.{_≡_}
 use mathlib.Core.List.{List}
 use mathlib.Core.Logic.{_⊎_}
@@ -39,9 +39,9 @@ RefusedOrCounted s name f st rs ps o = Refused st rs ps o ⊎ Done s name f st r
 abbrev pub AsDefined : Bytes → Bytes → Bytes → State → List ℕ → Bytes → Outcome → Type 0
 AsDefined s name f st rs ps o = o ≡ run s name f st rs ps
 
--- as document 02's K4 adds to it, of a run that isn't refused: "no byte can vanish". From st on, each byte that the reading takes is counted
--- once, in the span of an item that runs from st write or in what is skipped between two, and where no more is taken the last item says why.
--- r is the run's answer; what is counted, and up to where, says `NothingLost` (crates/laws_coverage/specs/Coverage.antt)
+-- document 02's K4 adds to it, of a run that isn't refused: "no byte can vanish". From st on, up to the text's end or to the first byte of
+-- the choice that failed, each byte is counted once: in the span of an item that runs from st write, or in what is skipped before one. It
+-- is said by `NothingLost` (crates/laws_coverage/specs/Coverage.antt)
 abbrev pub NoByteVanishes : Bytes → Bytes → Bytes → State → RunAnswer → Type 0
 NoByteVanishes s name f st r = r .refusal ≡ 0 → NothingLost s name f st
 

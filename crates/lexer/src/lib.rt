@@ -4,7 +4,7 @@
 // `run_turn::turn`.)
 //
 // Proved: for every input each answers as the definition says, and `run` leaves both buffers so, refusals included. What `run` promises,
-// the three demands, stands in specs/Promises.antt. Assumed: nothing.
+// the three demands and document 02's K4, stands in specs/Promises.antt. Assumed: nothing.
 use chars::ascii::op_char_table;
 use chars::ascii::symbolchar_table;
 use definition::RunAnswer;

@@ -4,15 +4,13 @@ use Prim.Native.Nat.{ℕ, _+_, _*_, _≤_}
 use mathlib.Core.Path.{_≡_, refl, sym, ap, subst, _∙_}
 use mathlib.Core.List.{List, [], _∷_}
 use native.Mathlib.Omega.{arith}
-use lib.Dec.{eqb}
 use lib.ListN.{length, length-append}
-use borrow.Author.Tests.{eqb-true, eqb-false}
 use Rattle.definition.specs.Basics.{Bytes}
 use Rattle.definition.specs.Item.{Step, record-size}
 use Rattle.definition.specs.Run.{Outcome, refusal, run}
 use Rattle.definition.specs.declared.State.{State}
 use Rattle.definition.specs.declared.RunAnswer.{RunAnswer}
-use Rattle.lemmas.proofs.Cases.{by-outcome}
+use Rattle.lemmas.proofs.Cases.{by-equal}
 use Rattle.laws_run.specs.Left.{left, Opened}
 use Rattle.laws_run.specs.Budget.{longest-payload}
 use Rattle.laws_run.proofs.Steps.{payload-short}
@@ -45,9 +43,9 @@ module _ (s name f : Bytes) where
     -- what a run says of refusals
     refusal-is : run s name f st rs ps .0 .refusal ≡ refusal s name f st .0
     refusal-is =
-        by-outcome (eqb (refusal s name f st .0) 0)
-        (λ t. let z = eqb-true _ 0 t in run-done s name f st rs ps z .taken .0 ∙ sym z)
-        (λ t. ap (λ (o : Outcome). o .0 .refusal) (run-refused s name f st rs ps (eqb-false _ 0 t)))
+        by-equal (refusal s name f st .0) 0
+        (λ z. run-done s name f st rs ps z .taken .0 ∙ sym z)
+        (λ n. ap (λ (o : Outcome). o .0 .refusal) (run-refused s name f st rs ps n))
 
     -- an answer without one
     run-taken : run s name f st rs ps .0 .refusal ≡ 0 → refusal s name f st .0 ≡ 0
@@ -83,9 +81,7 @@ module _ (s name f : Bytes) where
           → Stops s name f rs ps (length ts) (length (payloads-of ts)) b stop → (stop ≡ 0 → ⊥) → 1 ≤ length ts
       unfolding payloads-of
       some-written [] b stop h e w n =
-          by-outcome (eqb stop 1)
-          (λ t. absurd (omega (arith, w .records-full .0 (eqb-true stop 1 t) .1))) λ t.
-          let m : stop ≡ 1 → ⊥ = eqb-false stop 1 t in
+          by-equal stop 1 (λ e. absurd (omega (arith, w .records-full .0 e .1))) λ m.
           let q = w .payload-full .0 (omega (arith, w .one-of)) in
           absurd (omega (arith, q .2, payload-short s name f named b (subst (Stands s) e h) (q .0)))
       some-written (t ∷ ts) b stop h e w n = omega arith

@@ -1,5 +1,5 @@
--- A refusal alters nothing; what isn't refused is a run of items, all whole, between which nothing is lost, and at every reading position of
--- which demand 3 holds.
+-- A refusal alters nothing; what isn't refused is a run of items, all whole, between which nothing is lost, and at every reading position
+-- of which demand 3 holds.
 use Rattle.lexer.proofs.WholeLaws.{run-refuses, run-runs, runs-accepted, runs-lossless, runs-right, refuses-whole, runs-counted}
 use borrow.Author.Needs.{needs}
 use Rattle.lexer.proofs.run.Statement.{statement}
