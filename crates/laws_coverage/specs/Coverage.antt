@@ -21,7 +21,7 @@ use Rattle.definition.specs.declared.State.{State}
 -- ---- what the reading takes
 
 -- in one turn: what a choice of that place passes, from its first byte up to where reading goes on; or an item, and the byte `at` where
--- its choice was made or, in a comment, where the item begins
+-- its choice was made or, if it is a later piece of a comment, where that begins
 pub data Taking : Type 0 where
   skipped : (place from to : ℕ) → Taking
   gave : (at : ℕ) (t : Step) → Taking
