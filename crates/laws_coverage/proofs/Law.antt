@@ -13,7 +13,7 @@ use Rattle.definition.specs.declared.State.{State}
 use Rattle.lemmas.proofs.Loops.{says}
 use Rattle.lemmas.proofs.Cases.{by-equal}
 use Rattle.state.specs.Sound.{Stands}
-use Rattle.laws_run.proofs.Steps.{token-unroll, step-between, step-inside, reached-stands}
+use Rattle.laws_run.proofs.Steps.{token-unroll, step-between, step-inside}
 use Rattle.laws_run.proofs.Items.{steps-of-end, steps-of-on}
 use Rattle.laws_coverage.specs.Coverage.{
   Taking,
@@ -35,7 +35,7 @@ use Rattle.laws_coverage.specs.Coverage.{
   Last,
   NothingLost,
 }
-use Rattle.laws_coverage.proofs.Turns.{Turned, turned-going, carried-going, by-turns}
+use Rattle.laws_coverage.proofs.Turns.{Turned, turned-going, carried-going, stands, by-turns}
 use Rattle.laws_coverage.proofs.Parts.{Placed, skip-forward, skip-outside, skip-going, item-last, item-placed, piece-next, piece-placed}
 use Rattle.laws_coverage.proofs.Skips.{skips-there}
 use Rattle.laws_coverage.proofs.Counting.{empty, joined}
@@ -159,7 +159,7 @@ module _ (s name f : Bytes) (g : State) where
         → ts ≡ steps-of s name f (t .next) → t ∷ ts ≡ steps-of s name f st
     step-first {st} {t} {ts} r n e h =
         subst (λ (u : Step). ts ≡ steps-of s name f (u .next) → u ∷ ts ≡ steps-of s name f st) e
-        (λ q. ap (λ (l : List Step). step s name f st ∷ l) q ∙ sym (steps-of-on s name f st (reached-stands s name f r sound .sound .opened) n)) h
+        (λ q. ap (λ (l : List Step). step s name f st ∷ l) q ∙ sym (steps-of-on s name f st (stands s name f g sound r .sound .opened) n)) h
 
     -- what is skipped changes none of them
     skip-same : {st next : State} → Turned s name f g st (again next) → steps-of s name f next ≡ steps-of s name f st

@@ -16,11 +16,11 @@ use Rattle.lemmas.proofs.Cases.{by-equal, by-le}
 use Rattle.state.specs.Sound.{Stands}
 use Rattle.laws_run.proofs.Moving.{stands-within}
 use Rattle.laws_run.proofs.Paths.{path-reads}
-use Rattle.laws_run.proofs.FormLaws.{piece-goes-on, form-last}
-use Rattle.laws_run.proofs.ItemSpans.{Span, piece-span, form-span, turn-span}
-use Rattle.laws_run.proofs.Steps.{act-says, reached-stands}
+use Rattle.laws_run.proofs.FormLaws.{piece-goes-on}
+use Rattle.laws_run.proofs.ItemSpans.{Span, piece-span, form-over, turn-span}
+use Rattle.laws_run.proofs.Steps.{act-says, zero-outside}
 use Rattle.laws_coverage.specs.Coverage.{EofOrFailed}
-use Rattle.laws_coverage.proofs.Turns.{Turned, Carried, turned-keeps, carried-piece}
+use Rattle.laws_coverage.proofs.Turns.{Turned, Carried, turned-keeps, carried-piece, stands}
 
 -- an item given at st begins there, if the reading goes on after it, and is empty if not; it ends where the state after it stands
 pub record Placed (st : State) (t : Step) : Type 0 where
@@ -52,11 +52,11 @@ unfolding token-turn
 turn-last s name f st h m =
     by-le (Leads Any (IfLast s st)) (length s) (st .offset)
     (λ l _. (refl, inl (refl, omega (arith, stands-within h))))
-    (λ l. leads-map (λ b g. tt) (λ t v q. let e = form-span v .empty (form-last m v q) in (e .0, inr (e .1, l)))
+    (λ l. leads-map (λ b g. tt) (λ t v q. let e = form-over m v q in (e .0, inr (e .1, l)))
     (act s name f st (select s f (st .offset))) (act-says s name f st (omega arith)))
 
 module _ (s name f : Bytes) (g : State) where
-  -- After what is skipped reading goes on, further ahead and outside a comment.
+  -- After what is skipped reading goes on, not further back, and outside a comment.
   module _ {st next : State} (k : Turned s name f g st (again next)) where
     pub skip-forward : st .offset ≤ next .offset
     skip-forward = path-reads (turned-keeps s name f g k .path) .ahead .forward
@@ -65,13 +65,13 @@ module _ (s name f : Bytes) (g : State) where
     skip-outside = path-reads (turned-keeps s name f g k .path) .mode ∙ k .outside
 
     pub skip-going : next .mode ≡ 2 → ⊥
-    skip-going m = let o = skip-outside in absurd (omega arith)
+    skip-going = zero-outside {st = next} skip-outside .going
 
   module _ (sound : Stands s g) where
     -- An item of a choice.
     module _ {st : State} {t : Step} (k : Turned s name f g st (done t)) where
       pub item-last : IfLast s st t
-      item-last = subst (Leads Any (IfLast s st)) (k .says) (turn-last s name f st (reached-stands s name f (k .reached) sound) (k .outside))
+      item-last = subst (Leads Any (IfLast s st)) (k .says) (turn-last s name f st (stands s name f g sound (k .reached)) (k .outside))
 
       pub item-placed : Placed st t
       item-placed = placed st t (subst (Leads Any (Span st)) (k .says) (turn-span s name f st)) (λ m. item-last m .0)
@@ -79,7 +79,7 @@ module _ (s name f : Bytes) (g : State) where
     -- A later piece of a comment, after which reading goes on.
     module _ {st : State} (k : Carried s name f g st) where
       pub piece-next : comment s (st .offset) st .next .mode ≡ 2 → ⊥
-      piece-next = piece-goes-on (reached-stands s name f (k .reached) sound .sound .opened (k .inside)) (carried-piece s name f g k)
+      piece-next = piece-goes-on (stands s name f g sound (k .reached) .sound .opened (k .inside)) (carried-piece s name f g k)
 
       pub piece-placed : Placed st (comment s (st .offset) st)
       piece-placed = placed st _ (piece-span (carried-piece s name f g k) (omega arith)) (λ m. absurd (piece-next m))

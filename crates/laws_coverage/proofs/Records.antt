@@ -109,7 +109,7 @@ module _ (s name f : Bytes) where
       last-is : last-kind 0 l ≡ the-last .t .item .kind
       last-is = ap (last-kind 0) written-last ∙ last-kind-is 0 before (told (the-last .t))
 
-    -- there is one if it has a kind
+    -- where its kind isn't 0 there is one: the first state hadn't ended
     has-last : (last-kind 0 l ≡ 0 → ⊥) → g .mode ≡ 2 → ⊥
     has-last h m = h (ap (last-kind 0) (split-whole s name f taken w ended ∙ ap (map told) (steps-of-end s name f g m)))
 

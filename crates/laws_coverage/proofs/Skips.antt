@@ -1,5 +1,5 @@
 -- What is skipped: `next_token` calls itself after a choice of place 7, 8 or 29 alone, and reading goes on where that choice ends. Rests on
--- the rules of the places, looked at one by one.
+-- the rules of the places, looked at one by one, and on there being fifty (crate `laws_longest`).
 use Prim.Native.Nat.{ℕ, zero, suc, _+_, _≤_}
 use Prim.Native.String.{String}
 use mathlib.Core.Path.{_≡_, refl, sym, subst}
@@ -27,55 +27,55 @@ use Rattle.laws_longest.proofs.Law.{select-longest}
 use Rattle.laws_coverage.specs.Coverage.{SkipPlace}
 
 -- a turn that goes on does so after a choice of place k that ends at e
-abbrev Passes : ℕ → ℕ → Token-turn → Type 0
-Passes k e = Leads (λ (b : State). SkipPlace k × (b .offset ≡ e)) Any
+abbrev SkipsTo : ℕ → ℕ → Token-turn → Type 0
+SkipsTo k e = Leads (λ (b : State). SkipPlace k × (b .offset ≡ e)) Any
 
 module _ (s name f : Bytes) (st : State) (e w : ℕ) where
   -- the three rules that skip
-  white-passes : Passes 7 e (by-rule s name f st e RWhite)
-  white-passes = (inl refl, refl)
+  white-skips : SkipsTo 7 e (by-rule s name f st e RWhite)
+  white-skips = (inl refl, refl)
 
-  newline-passes : Passes 8 e (by-rule s name f st e RNewline)
-  newline-passes = (inr (inl refl), refl)
+  newline-skips : SkipsTo 8 e (by-rule s name f st e RNewline)
+  newline-skips = (inr (inl refl), refl)
 
-  in-f-star-passes : Passes 29 e (by-rule s name f st e RInFStar)
-  in-f-star-passes = (inr (inr refl), refl)
+  in-f-star-skips : SkipsTo 29 e (by-rule s name f st e RInFStar)
+  in-f-star-skips = (inr (inr refl), refl)
 
   -- those that look further before they give an item
-  word-passes : (k : ℕ) (table : List Entry) (d : String) → Passes k e (finish-word s st e table d)
-  word-passes k table d = go (find (lexeme s (st .offset) e) table)
+  word-skips : (k : ℕ) (table : List Entry) (d : String) → SkipsTo k e (finish-word s st e table d)
+  word-skips k table d = go (find (lexeme s (st .offset) e) table)
     where
-      go : (x : Option Entry) → Passes k e (elim x [ some y ↦ finish-entry s st e y | none ↦ finish s st e (kind d) (lexeme s (st .offset) e) ])
+      go : (x : Option Entry) → SkipsTo k e (elim x [ some y ↦ finish-entry s st e y | none ↦ finish s st e (kind d) (lexeme s (st .offset) e) ])
       go (some y) = tt
       go none = tt
 
-  ident-passes : (k : ℕ) → Passes k e (ident s st e)
-  ident-passes k = by-test (Passes k e) (starts-with (lexeme s (st .offset) e) reserved-prefix) (λ _. tt) (λ _. word-passes k _ _)
+  ident-skips : (k : ℕ) → SkipsTo k e (ident s st e)
+  ident-skips k = by-test (SkipsTo k e) (starts-with (lexeme s (st .offset) e) reserved-prefix) (λ _. tt) (λ _. word-skips k _ _)
 
-  uint8-passes : (k : ℕ) → Passes k e (uint8 s st e)
-  uint8-passes k = by-test (Passes k e) (ltb 255 (int-of-string (clean-number (lexeme s (st .offset) e)))) (λ _. tt) (λ _. tt)
+  uint8-skips : (k : ℕ) → SkipsTo k e (uint8 s st e)
+  uint8-skips k = by-test (SkipsTo k e) (ltb 255 (int-of-string (clean-number (lexeme s (st .offset) e)))) (λ _. tt) (λ _. tt)
 
-  op-passes : (k : ℕ) (d : String) → Passes k e (op s st e d)
-  op-passes k d = by-test (Passes k e) (eqb (no-comment s (st .offset) e) (st .offset)) (λ _. tt) (λ _. tt)
+  op-skips : (k : ℕ) (d : String) → SkipsTo k e (op s st e d)
+  op-skips k d = by-test (SkipsTo k e) (eqb (no-comment s (st .offset) e) (st .offset)) (λ _. tt) (λ _. tt)
 
   -- every place
-  place-passes : Numbered (λ k r. Passes k e (by-rule s name f st e r)) 1 (place-rules w)
+  place-skips : Numbered (λ k r. SkipsTo k e (by-rule s name f st e r)) 1 (place-rules w)
   unfolding place-rules
-  place-passes =
+  place-skips =
       tt ⨟ tt ⨟ tt ⨟ tt ⨟ tt ⨟ tt
-      ⨟ white-passes  -- 7 RWhite
-      ⨟ newline-passes  -- 8 RNewline
+      ⨟ white-skips  -- 7 RWhite
+      ⨟ newline-skips  -- 8 RNewline
       ⨟ tt ⨟ tt ⨟ tt ⨟ tt ⨟ tt
-      ⨟ ident-passes 14  -- RIdent
-      ⨟ word-passes 15 _ _  -- RConstructor
+      ⨟ ident-skips 14  -- RIdent
+      ⨟ word-skips 15 _ _  -- RConstructor
       ⨟ tt
-      ⨟ uint8-passes 17  -- RUInt8
+      ⨟ uint8-skips 17  -- RUInt8
       ⨟ tt ⨟ tt ⨟ tt ⨟ tt ⨟ tt ⨟ tt ⨟ tt ⨟ tt ⨟ tt ⨟ tt ⨟ tt
-      ⨟ in-f-star-passes  -- 29 RInFStar
+      ⨟ in-f-star-skips  -- 29 RInFStar
       ⨟ tt ⨟ tt ⨟ tt ⨟ tt ⨟ tt ⨟ tt ⨟ tt ⨟ tt ⨟ tt
-      ⨟ op-passes 39 _ ⨟ op-passes 40 _ ⨟ op-passes 41 _ ⨟ op-passes 42 _ ⨟ op-passes 43 _  -- ROp
-      ⨟ op-passes 44 _ ⨟ op-passes 45 _ ⨟ op-passes 46 _ ⨟ op-passes 47 _ ⨟ op-passes 48 _
-      ⨟ word-passes 49 _ _  -- RUOperator
+      ⨟ op-skips 39 _ ⨟ op-skips 40 _ ⨟ op-skips 41 _ ⨟ op-skips 42 _ ⨟ op-skips 43 _  -- ROp
+      ⨟ op-skips 44 _ ⨟ op-skips 45 _ ⨟ op-skips 46 _ ⨟ op-skips 47 _ ⨟ op-skips 48 _
+      ⨟ word-skips 49 _ _  -- RUOperator
       ⨟ tt
       ⨟ no-more
 
@@ -84,23 +84,23 @@ module _ (s name f : Bytes) (st : State) where
   c = select s f (st .offset)
 
   -- the rule of the choice; where that is none of the places, `RAny` gives an item
-  rule-passes : c .place ≤ 50 → (k : ℕ) → c .place ≡ k → Passes (c .place) (c .end) (by-rule s name f st (c .end) (getD (RAny ∷ place-rules (c .word)) k RAny))
+  rule-skips : c .place ≤ 50 → (k : ℕ) → c .place ≡ k → SkipsTo (c .place) (c .end) (by-rule s name f st (c .end) (getD (RAny ∷ place-rules (c .word)) k RAny))
   unfolding place-rules
-  rule-passes h zero q = tt
-  rule-passes h (suc k) q =
+  rule-skips h zero q = tt
+  rule-skips h (suc k) q =
       let r : 1 + k ≡ c .place = omega arith in
-      subst (λ (m : ℕ). Passes m (c .end) (by-rule s name f st (c .end) (getD (place-rules (c .word)) k RAny))) r
-      (numbered-within RAny (place-passes s name f st (c .end) (c .word)) k (omega arith))
+      subst (λ (m : ℕ). SkipsTo m (c .end) (by-rule s name f st (c .end) (getD (place-rules (c .word)) k RAny))) r
+      (numbered-within RAny (place-skips s name f st (c .end) (c .word)) k (omega arith))
 
-  turn-passes : Passes (c .place) (c .end) (token-turn s name f st)
+  turn-skips : SkipsTo (c .place) (c .end) (token-turn s name f st)
   unfolding token-turn act chosen-rule c
-  turn-passes =
-      by-le (Passes (c .place) (c .end)) (length s) (st .offset) (λ _. tt)
-      (λ l. rule-passes (select-longest s f (st .offset) (omega arith) .place) (c .place) refl)
+  turn-skips =
+      by-le (SkipsTo (c .place) (c .end)) (length s) (st .offset) (λ _. tt)
+      (λ l. rule-skips (select-longest s f (st .offset) (omega arith) .place) (c .place) refl)
 
   -- What is skipped was chosen by one of the three rules, up to where the choice ends.
   pub skips-there : {next : State} → token-turn s name f st ≡ again next → SkipPlace (select s f (st .offset) .place) × (select s f (st .offset) .end ≡ next .offset)
   unfolding c
   skips-there {next} e =
-      let p : SkipPlace (c .place) × (next .offset ≡ c .end) = subst (Passes (c .place) (c .end)) e turn-passes in
+      let p : SkipPlace (c .place) × (next .offset ≡ c .end) = subst (SkipsTo (c .place) (c .end)) e turn-skips in
       (p .0, sym (p .1))

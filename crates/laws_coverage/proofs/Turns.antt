@@ -55,7 +55,7 @@ module _ (s name f : Bytes) (g : State) where
 
   -- the reading hasn't ended there
   pub turned-going : {st : State} {x : Token-turn} → Turned st x → st .mode ≡ 2 → ⊥
-  turned-going k m = let o = k .outside in absurd (omega arith)
+  turned-going {st} k = zero-outside {st = st} (k .outside) .going
 
   pub carried-going : {st : State} → Carried st → st .mode ≡ 2 → ⊥
   carried-going k m = let o = k .inside in absurd (omega arith)
@@ -73,7 +73,7 @@ module _ (s name f : Bytes) (g : State) where
 
   module _ (sound : Stands s g) where
     -- every state that the reading comes to is sound
-    stands : {st : State} → Reached s name f g st → Stands s st
+    pub stands : {st : State} → Reached s name f g st → Stands s st
     stands r = reached-stands s name f r sound
 
     -- ---- each turn leaves less to read

@@ -20,8 +20,8 @@ use Rattle.definition.specs.declared.State.{State}
 
 -- ---- what the reading takes
 
--- in one turn: what a choice of that place passes, from its first byte up to where reading goes on; or an item, and the byte `at` where
--- its choice was made or, if it is a later piece of a comment, where that begins
+-- in one turn: what a choice passes, with its place, from its first byte up to where reading goes on; or an item, and the byte `at` where
+-- the turn stood that gave it: where the choice was made, where a later piece of a comment begins, or for EOF where the text has ended
 pub data Taking : Type 0 where
   skipped : (place from to : ℕ) → Taking
   gave : (at : ℕ) (t : Step) → Taking
@@ -91,7 +91,7 @@ held b (p ∷ ps) = in-part b p + held b ps
 abbrev pub times : ℕ → List Taking → ℕ
 times b ts = held b (spans-in ts) + held b (skips-in ts)
 
--- the byte up to which bytes are counted: where the choice of the last item was made; o if there is no item. So it is the text's end if
+-- the byte up to which bytes are counted: where the turn stood that gave the last item; o if there is no item. So it is the text's end if
 -- that item is EOF, and "the first byte of the choice that failed" if it is an ERROR. No record of error 1, 2 or 7 has it: these sit
 -- further on
 unfoldable pub limit : ℕ → List Taking → ℕ
@@ -117,7 +117,8 @@ abbrev pub Forward : ℕ → List Part → Type 0
 Forward o [] = Unit {0}
 Forward o ((from, to) ∷ ps) = (o ≤ from) × (from ≤ to) × Forward to ps
 
--- t, which is given at the state st, is EOF, and the text has ended there; or it is an ERROR, and the choice there failed
+-- t, which is given at the state st, is EOF, and the text has ended there; or it is an ERROR, given before the text's end, where there is a
+-- choice
 abbrev pub EofOrFailed : Bytes → State → Step → Type 0
 EofOrFailed s st t =
     ((t .item .kind ≡ kind "EOF") × (st .offset ≡ length s)) ⊎ ((t .item .kind ≡ kind "ERROR") × (st .offset < length s))
@@ -141,5 +142,5 @@ pub record NothingLost (s name f : Bytes) (g : State) : Type 0 where
   pub forward : Forward (g .offset) (spans-in (takings s name f g))
   -- the items are those that runs from g write, however they are split: the spans stand in the records (proofs/Records.antt)
   pub items : steps-in (takings s name f g) ≡ steps-of s name f g
-  -- the limit is the text's end, or where the choice was made that failed; from a state that has ended nothing is taken
+  -- the limit is the text's end, or where the choice was made that failed; from a state that has ended on nothing is taken
   pub last : (g .mode ≡ 2 → ⊥) → Last s name f g (takings s name f g)

@@ -32,7 +32,7 @@ last-kind k (x ∷ l) = last-kind (getD (x .0) 1 0) l
 abbrev pub counted : Bytes → Bytes → Bytes → State → List Told → ℕ → ℕ
 counted s name f g l b = held b (told-spans l) + held b (skips-in (takings s name f g))
 
--- ---- what holds of a text that is read from its first byte to its end
+-- ---- what holds of a text that is read from its first byte until the reading has ended
 
 -- "A text that ends in ERROR is covered likewise up to the first byte of the choice that failed": a run comes to the state st where that
 -- choice was made, and the ERROR that it gives is written last
@@ -48,6 +48,8 @@ pub record UpToFailed (s name f : Bytes) (g : State) (l : List Told) : Type 0 wh
   pub is-last : l ≡ before ++ (told t ∷ [])
   pub once : (b : ℕ) → b < st .offset → counted s name f g l b ≡ 1
 
+-- `covered` (proofs/Records.antt) shows it of runs one after another of which the first is given a state at offset 0 and isn't refused, and
+-- the last hands back a state that has ended
 pub record Covered (s name f : Bytes) (g : State) (l : List Told) : Type 0 where
   -- the last item is EOF or ERROR, unless the first run was given a state that has ended
   pub ends : (g .mode ≡ 2 → ⊥) → (last-kind 0 l ≡ kind "EOF") ⊎ (last-kind 0 l ≡ kind "ERROR")

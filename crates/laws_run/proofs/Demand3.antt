@@ -19,9 +19,9 @@ use Rattle.lemmas.proofs.Cases.{by-equal, by-le}
 use Rattle.state.specs.Sound.{Stands}
 use Rattle.laws_longest.proofs.Law.{select-longest}
 use Rattle.laws_run.proofs.Paths.{Goes}
-use Rattle.laws_run.proofs.FormLaws.{awake-yet, form-gives, form-last, form-number}
+use Rattle.laws_run.proofs.FormLaws.{awake-yet, form-gives, form-number}
 use Rattle.laws_run.proofs.Forms.{Form, Gives}
-use Rattle.laws_run.proofs.ItemSpans.{form-span}
+use Rattle.laws_run.proofs.ItemSpans.{form-over}
 use Rattle.laws_run.proofs.Rules.{Says}
 use Rattle.laws_run.proofs.Steps.{turn-says, reached-stands}
 use Rattle.laws_run.proofs.Refusals.{run-stands}
@@ -58,7 +58,7 @@ module _ (s name f : Bytes) where
     skips = λ next e. let v : Goes s (Unit {0}) st next = subst (Says s name (c st l .place ≡ 0) st) e (turn-says s name f st l) in omega (arith, v .moves tt);
     gives = λ t e.
         let v : Form s name (c st l .place ≡ 0) st t = subst (Says s name (c st l .place ≡ 0) st) e (turn-says s name f st l) in
-        item-moves st t h m (form-gives (omega arith) v) (λ q. form-span v .empty (form-last m v q) .1);
+        item-moves st t h m (form-gives (omega arith) v) (λ q. form-over m v q .1);
   }
 
   -- Demand 3, over a run.

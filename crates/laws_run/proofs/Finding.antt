@@ -1,6 +1,6 @@
 -- Two consequences of what a run has done: its items are found again in its buffers, and with room enough it comes to the end. Rests on the
 -- laws of items and buffers beside this file, and on the payload's bound (Steps).
-use Prim.Native.Nat.{ℕ, _+_, _*_, _≤_}
+use Prim.Native.Nat.{ℕ, _*_, _≤_}
 use mathlib.Core.Path.{_≡_, sym, ap, subst, _∙_}
 use mathlib.Core.List.{List, [], _∷_, _++_, map, map-append}
 use native.Mathlib.Omega.{arith}

@@ -67,9 +67,13 @@ comment-measured text sp ep false next = record { size = λ used. add-zero (leng
 
 -- ---- a piece of a comment
 
--- leaving a level takes it off, or ends the comment; two bytes of payload are paid by it
+-- leaving a level reads nothing
+closing-offset : (a : State) → close-comment a .offset ≡ a .offset
+unfolding close-comment
+closing-offset a = by-lt (λ (b : State). b .offset ≡ a .offset) 1 (a .depth) (λ _. refl) (λ _. refl)
+
+-- it takes the level off, or ends the comment; two bytes of payload are paid by it
 record Closing (s : Bytes) (a b : State) : Type 0 where
-  offset : b .offset ≡ a .offset
   less : left s b ≤ level s a
   opened : Opened b
   paid : most s b + 2 ≤ most s a
@@ -78,8 +82,8 @@ record Closing (s : Bytes) (a b : State) : Type 0 where
 closing : (s : Bytes) (a : State) → 1 ≤ a .depth → Closing s a (close-comment a)
 unfolding close-comment
 closing s a h = by-lt (Closing s a) 1 (a .depth)
-    (λ k. record { offset = refl; less = omega arith; opened = λ _. omega arith; paid = omega arith; goes-on = λ m. absurd (omega arith) })
-    (λ k. record { offset = refl; less = omega arith; opened = λ m. absurd (omega arith); paid = omega arith; goes-on = λ m. absurd (omega arith) })
+    (λ k. record { less = omega arith; opened = λ _. omega arith; paid = omega arith; goes-on = λ m. absurd (omega arith) })
+    (λ k. record { less = omega arith; opened = λ m. absurd (omega arith); paid = omega arith; goes-on = λ m. absurd (omega arith) })
 
 module _ {s : Bytes} {st : State} where
   module _ {from : ℕ} {t : Step} (level-open : 1 ≤ st .depth) (p : Piece s from st t) where
@@ -91,8 +95,8 @@ module _ {s : Bytes} {st : State} where
 
     pub piece-gives : Gives s st t
     piece-gives = subst (Gives s st) (sym (p .is)) record {
-      clean = λ l. rw (c .offset) (r .ahead .clean l);
-      within = λ l. omega (arith, c .offset, r .ahead .within l);
+      clean = λ l. rw (closing-offset (p .last)) (r .ahead .clean l);
+      within = λ l. omega (arith, closing-offset (p .last), r .ahead .within l);
       less = omega (arith, c .less, r .fewer);
       opened = λ _. c .opened;
     }
@@ -112,12 +116,10 @@ module _ {s : Bytes} {st : State} where
     pub piece-short : st .offset ≤ length s → length (t .payload) ≤ length s + 2
     piece-short l = subst (λ (x : Step). length (x .payload) ≤ length s + 2) (sym (p .is)) (omega (arith, p .small, r .ahead .within l))
 
-  -- reading doesn't go back: leaving a level reads nothing
+  -- reading doesn't go back
   pub piece-forward : {from : ℕ} {t : Step} → Piece s from st t → st .offset ≤ t .next .offset
-  unfolding close-comment
   piece-forward p =
-      subst (λ (x : Step). st .offset ≤ x .next .offset) (sym (p .is))
-      (let h = path-reads (p .path) .ahead .forward in by-lt (λ (b : State). st .offset ≤ b .offset) 1 (p .last .depth) (λ _. h) (λ _. h))
+      subst (λ (x : Step). st .offset ≤ x .next .offset) (sym (p .is)) (omega (arith, closing-offset (p .last), path-reads (p .path) .ahead .forward))
 
   pub piece-sound : {from : ℕ} {t : Step} → Piece s from st t → Stands s st → st .mode ≡ 1 → Stands s (t .next)
   piece-sound p h m =

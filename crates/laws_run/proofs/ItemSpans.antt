@@ -24,7 +24,7 @@ use Rattle.lemmas.proofs.Cases.{by-test, by-equal, by-le}
 use Rattle.laws_progress.proofs.Walks.{rest}
 use Rattle.laws_run.proofs.Paths.{path-reads}
 use Rattle.laws_run.proofs.Forms.{nothing, code-point, Piece, Form, token, blob, line, opened, error, IsError}
-use Rattle.laws_run.proofs.FormLaws.{piece-forward}
+use Rattle.laws_run.proofs.FormLaws.{piece-forward, form-last}
 use Rattle.laws_run.proofs.CommentReader.{comment-piece}
 use Rattle.laws_run.proofs.Steps.{act-says, token-falls, step-inside}
 
@@ -85,6 +85,11 @@ form-span (error n text p1 p2 p b u) = record {
   empty = λ _. (refl, refl);
   ends = λ _. refl;
 }
+
+-- where the reading is over after it, it is empty, and its kind is ERROR
+pub form-over : {s name : Bytes} {U : Type 0} {st : State} {t : Step} → st .mode ≡ 0 → Form s name U st t → t .next .mode ≡ 2
+    → (t .item .from ≡ t .item .to) × (t .item .kind ≡ kind "ERROR")
+form-over m v q = form-span v .empty (form-last m v q)
 
 module _ (s name f : Bytes) where
   -- what a turn gives; at the text's end there is no choice, and EOF is empty there

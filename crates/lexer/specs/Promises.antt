@@ -39,9 +39,9 @@ RefusedOrCounted s name f st rs ps o = Refused st rs ps o ⊎ Done s name f st r
 abbrev pub AsDefined : Bytes → Bytes → Bytes → State → List ℕ → Bytes → Outcome → Type 0
 AsDefined s name f st rs ps o = o ≡ run s name f st rs ps
 
--- document 02's K4 adds to it, of a run that isn't refused: "no byte can vanish". From st on, up to the text's end or to the first byte of
--- the choice that failed, each byte is counted once: in the span of an item that runs from st write, or in what is skipped before one. It
--- is said by `NothingLost` (crates/laws_coverage/specs/Coverage.antt)
+-- document 02's K4 adds to it, of a run that isn't refused: "no byte can vanish". From st on, if the reading hasn't ended there, up to the
+-- text's end or to the first byte of the choice that failed, each byte is counted once: in the span of an item that runs from st write, or
+-- in what is skipped before one. It is said by `NothingLost` (crates/laws_coverage/specs/Coverage.antt)
 abbrev pub NoByteVanishes : Bytes → Bytes → Bytes → State → RunAnswer → Type 0
 NoByteVanishes s name f st r = r .refusal ≡ 0 → NothingLost s name f st
 

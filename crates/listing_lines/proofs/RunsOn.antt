@@ -81,7 +81,7 @@ module _ (s name f : Bytes) where
           → Stops s name f rs ps (length ts) (length (payloads-of ts)) b stop → (stop ≡ 0 → ⊥) → 1 ≤ length ts
       unfolding payloads-of
       some-written [] b stop h e w n =
-          by-equal stop 1 (λ e. absurd (omega (arith, w .records-full .0 e .1))) λ m.
+          by-equal stop 1 (λ q. absurd (omega (arith, w .records-full .0 q .1))) λ m.
           let q = w .payload-full .0 (omega (arith, w .one-of)) in
           absurd (omega (arith, q .2, payload-short s name f named b (subst (Stands s) e h) (q .0)))
       some-written (t ∷ ts) b stop h e w n = omega arith

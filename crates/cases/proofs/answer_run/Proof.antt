@@ -1,5 +1,5 @@
--- The run, and what fills the records before it, keep how many they are. What is known of the run is so much that the search doesn't find
--- this among it.
+-- The run, and what fills the records before it, keep the number of records. What is known of the run is so much that the search doesn't
+-- find this among it.
 use mathlib.Core.Path.{_∙_}
 use borrow.Author.Needs.{needs}
 use Rattle.cases.proofs.answer_run.Statement.{statement}
