@@ -142,5 +142,5 @@ pub record NothingLost (s name f : Bytes) (g : State) : Type 0 where
   pub forward : Forward (g .offset) (spans-in (takings s name f g))
   -- the items are those that runs from g write, however they are split: the spans stand in the records (proofs/Records.antt)
   pub items : steps-in (takings s name f g) ≡ steps-of s name f g
-  -- the limit is the text's end, or where the choice was made that failed; from a state that has ended on nothing is taken
+  -- the limit is the text's end, or where the choice was made that failed; if the reading has ended at g nothing is taken
   pub last : (g .mode ≡ 2 → ⊥) → Last s name f g (takings s name f g)
