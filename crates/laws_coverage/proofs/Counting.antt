@@ -11,12 +11,11 @@ pub inside : (b from to : ℕ) → from ≤ b → b < to → in-part b (from, to
 inside b from to h l = simp all-tests
 
 -- one before it, and one past it
-pub before : (b from to : ℕ) → b < from → in-part b (from, to) ≡ 0
+before : (b from to : ℕ) → b < from → in-part b (from, to) ≡ 0
 before b from to h = simp all-tests
 
-pub past : (b from to : ℕ) → to ≤ b → in-part b (from, to) ≡ 0
-past b from to h =
-    by-order b from (λ l. before b from to l) (λ l. simp all-tests)
+past : (b from to : ℕ) → to ≤ b → in-part b (from, to) ≡ 0
+past b from to h = by-order b from (λ l. before b from to l) (λ l. simp all-tests)
 
 -- an empty part
 pub empty : (b i : ℕ) → in-part b (i, i) ≡ 0

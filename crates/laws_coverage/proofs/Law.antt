@@ -7,6 +7,7 @@ use native.Mathlib.Omega.{arith}
 use Rattle.definition.specs.Basics.{Bytes, again, done}
 use Rattle.definition.specs.Item.{Step}
 use Rattle.definition.specs.Token.{Token-turn, token-turn, next-token, step}
+use Rattle.definition.specs.Run.{refusal}
 use Rattle.definition.specs.Items.{steps-of}
 use Rattle.definition.specs.Reading.{Reached, skipped as reached-skipped}
 use Rattle.definition.specs.declared.State.{State}
@@ -15,6 +16,7 @@ use Rattle.lemmas.proofs.Cases.{by-equal}
 use Rattle.state.specs.Sound.{Stands}
 use Rattle.laws_run.proofs.Steps.{token-unroll, step-between, step-inside}
 use Rattle.laws_run.proofs.Items.{steps-of-end, steps-of-on}
+use Rattle.laws_run.proofs.Refusals.{run-stands}
 use Rattle.laws_coverage.specs.Coverage.{
   Taking,
   skipped,
@@ -222,3 +224,7 @@ module _ (s name f : Bytes) (g : State) where
       items = items;
       last = ends;
     }
+
+  -- So from every state that a run isn't refused with.
+  pub run-lossless : refusal s name f g .0 ≡ 0 → NothingLost s name f g
+  run-lossless taken = nothing-lost (run-stands s name f g taken)

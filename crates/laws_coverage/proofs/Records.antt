@@ -12,15 +12,14 @@ use Rattle.definition.specs.Item.{Step}
 use Rattle.definition.specs.Run.{refusal}
 use Rattle.definition.specs.Items.{Told, told, steps-of, items-of}
 use Rattle.definition.specs.declared.State.{State}
-use Rattle.laws_run.specs.Split.{Split, no-run, then-run}
+use Rattle.laws_run.specs.Split.{Split}
 use Rattle.laws_run.proofs.ItemSpans.{last-words}
 use Rattle.laws_run.proofs.Items.{steps-of-end}
-use Rattle.laws_run.proofs.Refusals.{run-stands}
-use Rattle.laws_run.proofs.Laws.{handed-back-taken, split-items, split-whole}
-use Rattle.laws_coverage.specs.Coverage.{Taking, skipped, gave, takings, Part, steps-in, span, spans-in, skips-in, in-part, held, limit, Forward, Last, NothingLost}
+use Rattle.laws_run.proofs.Laws.{split-items, split-taken, split-whole}
+use Rattle.laws_coverage.specs.Coverage.{Taking, skipped, gave, takings, Part, steps-in, span, spans-in, skips-in, in-part, held, limit, Forward, Last}
 use Rattle.laws_coverage.specs.Records.{told-span, told-spans, last-kind, counted, Covered}
 use Rattle.laws_coverage.proofs.Counting.{inside}
-use Rattle.laws_coverage.proofs.Law.{nothing-lost}
+use Rattle.laws_coverage.proofs.Law.{run-lossless}
 
 -- ---- the span in an item's record
 
@@ -54,29 +53,20 @@ unfolding kind kind-names number-from
 error-kind e = absurd (omega arith)
 
 module _ (s name f : Bytes) where
-  -- of a state that a run isn't refused with
-  covering : (g : State) → refusal s name f g .0 ≡ 0 → NothingLost s name f g
-  covering g taken = nothing-lost s name f g (run-stands s name f g taken)
-
-  -- runs one after another aren't refused either
-  split-taken : {g e : State} {l : List Told} → refusal s name f g .0 ≡ 0 → Split s name f g l e → refusal s name f e .0 ≡ 0
-  split-taken taken no-run = taken
-  split-taken {g} taken (then-run rs ps rest) = split-taken (handed-back-taken s name f g rs ps taken) rest
-
   -- The spans of what the reading takes are those in the records that runs wrote, and then those of the state that the last handed back.
   pub split-spans : {g e : State} {l : List Told} → refusal s name f g .0 ≡ 0 → Split s name f g l e
       → spans-in (takings s name f g) ≡ told-spans l ++ spans-in (takings s name f e)
   split-spans {g} {e} {l} taken w =
-      ap (map span) (covering g taken .items)
+      ap (map span) (run-lossless s name f g taken .items)
       ∙ sym (told-spans-are (steps-of s name f g))
       ∙ ap told-spans (split-items s name f taken w)
       ∙ map-append told-span l (items-of s name f e)
-      ∙ ap (λ (ps : List Part). told-spans l ++ ps) (told-spans-are (steps-of s name f e) ∙ sym (ap (map span) (covering e (split-taken taken w) .items)))
+      ∙ ap (λ (ps : List Part). told-spans l ++ ps) (told-spans-are (steps-of s name f e) ∙ sym (ap (map span) (run-lossless s name f e (split-taken s name f taken w) .items)))
 
   module _ {g e : State} {l : List Told} (taken : refusal s name f g .0 ≡ 0) (w : Split s name f g l e) (ended : e .mode ≡ 2) where
     -- what the runs wrote are the items that were taken
     written : l ≡ map told (steps-in (takings s name f g))
-    written = split-whole s name f taken w ended ∙ ap (map told) (sym (covering g taken .items))
+    written = split-whole s name f taken w ended ∙ ap (map told) (sym (run-lossless s name f g taken .items))
 
     -- Runs that come to the end wrote them all.
     pub whole-spans : told-spans l ≡ spans-in (takings s name f g)
@@ -84,7 +74,7 @@ module _ (s name f : Bytes) where
 
     -- so what is counted is counted by the records
     counted-once : (b : ℕ) → counted s name f g l b ≡ in-part b (g .offset, limit (g .offset) (takings s name f g))
-    counted-once b = ap (λ (ps : List Part). held b ps + held b (skips-in (takings s name f g))) whole-spans ∙ covering g taken .once b
+    counted-once b = ap (λ (ps : List Part). held b ps + held b (skips-in (takings s name f g))) whole-spans ∙ run-lossless s name f g taken .once b
 
     -- it is counted once below the limit, where the text is read from its first byte
     counted-below : g .offset ≡ 0 → (b : ℕ) → b < limit (g .offset) (takings s name f g) → counted s name f g l b ≡ 1
@@ -93,7 +83,7 @@ module _ (s name f : Bytes) where
     -- the last item that was taken is the last in the records
     module _ (going : g .mode ≡ 2 → ⊥) where
       the-last : Last s name f g (takings s name f g)
-      the-last = covering g taken .last going
+      the-last = run-lossless s name f g taken .last going
 
       before : List Told
       before = map told (steps-in (the-last .before))
@@ -137,6 +127,6 @@ module _ (s name f : Bytes) where
             is-last = written-last n;
             once = λ b k. counted-below first b (omega (arith, x .limited));
           };
-      skips = covering g taken .skips;
-      forward = subst (Forward 0) (sym whole-spans) (subst (λ (o : ℕ). Forward o (spans-in (takings s name f g))) first (covering g taken .forward));
+      skips = run-lossless s name f g taken .skips;
+      forward = subst (Forward 0) (sym whole-spans) (subst (λ (o : ℕ). Forward o (spans-in (takings s name f g))) first (run-lossless s name f g taken .forward));
     }

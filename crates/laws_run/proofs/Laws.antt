@@ -123,6 +123,11 @@ module _ (s name f : Bytes) where
       ∙ ap (λ (r : List Told). w ++ r) (split-items (handed-back-taken st rs ps taken) rest)
       ∙ sym (append-assoc w l (items-of s name f b))
 
+  -- None of them is refused, and the last state handed back is taken again.
+  pub split-taken : {st b : State} {l : List Told} → refusal s name f st .0 ≡ 0 → Split s name f st l b → refusal s name f b .0 ≡ 0
+  split-taken taken no-run = taken
+  split-taken {st} taken (then-run rs ps rest) = split-taken (handed-back-taken st rs ps taken) rest
+
   -- However a text is split, runs that come to the end write its items from the state given,
   pub split-whole : {st b : State} {l : List Told} → refusal s name f st .0 ≡ 0 → Split s name f st l b → b .mode ≡ 2 → l ≡ items-of s name f st
   split-whole {st} {b} {l} taken w m =

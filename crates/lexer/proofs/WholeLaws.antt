@@ -15,7 +15,7 @@ use Rattle.laws_run.specs.Written.{Done}
 use Rattle.laws_run.proofs.Demand3.{every-reading}
 use Rattle.laws_run.proofs.Laws.{run-done}
 use Rattle.laws_coverage.specs.Coverage.{NothingLost}
-use Rattle.laws_coverage.proofs.Law.{nothing-lost}
+use Rattle.laws_coverage.proofs.Law.{run-lossless}
 use Rattle.lexer.specs.Promises.{RefusedOrCounted}
 
 module _ (s name f : Bytes) (st : State) {n o : ℕ} (e : _≡_ {A = ℕ × ℕ} (n, o) (refusal s name f st)) where
@@ -39,7 +39,7 @@ module _ (s name f : Bytes) (st : State) {n o : ℕ} (e : _≡_ {A = ℕ × ℕ}
 
   -- nothing of its text is lost between items,
   pub runs-lossless : n ≡ 0 → NothingLost s name f st
-  runs-lossless h = nothing-lost s name f st (runs-accepted h .stands)
+  runs-lossless h = run-lossless s name f st (taken h)
 
   -- demand 3 holds of it,
   pub runs-right : n ≡ 0 → EveryReading s name f st
