@@ -2,5 +2,6 @@ mod Computed
 pub mod Tables
 mod Cases
 mod Limits
+mod Utf16Cases
 pub mod Samples
 mod Closing

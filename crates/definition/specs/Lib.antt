@@ -23,6 +23,7 @@ pub mod Blob
 pub mod Token
 pub mod Run
 pub mod Items
+pub mod Utf16
 pub mod Regex
 pub mod Patterns
 pub mod Longest
@@ -31,3 +32,4 @@ pub mod Samples
 pub mod Listed
 pub mod Cases
 pub mod Limits
+pub mod Utf16Cases

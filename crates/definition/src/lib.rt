@@ -204,3 +204,26 @@ pub struct RunAnswer {
     pub count: u32,
     pub state: State,
 }
+
+// The second run's saved state (document 02, K2): document 01's nine numbers, whose columns count characters, and then the second columns,
+// in UTF-16 units, of the line start and of the comment start.
+pub struct Utf16State {
+    pub first: State,
+    pub column: u32,
+    pub comment: u32,
+}
+
+// Its start's answer: a refusal number with a state of eleven zeros, or 0 with the state.
+pub struct Utf16StartAnswer {
+    pub refusal: u32,
+    pub state: Utf16State,
+}
+
+// Its run's answer, as the first run's.
+pub struct Utf16RunAnswer {
+    pub refusal: u32,
+    pub offset: u32,
+    pub stop: u32,
+    pub count: u32,
+    pub state: Utf16State,
+}
