@@ -11,10 +11,11 @@ use Rattle.definition.specs.Text.{lexeme, run-end, after}
 use Rattle.definition.specs.Chars.{is-newline-char}
 use Rattle.definition.specs.Tables.{cps}
 use Rattle.definition.specs.Matchers.{match-lit, match-newline}
+use Rattle.definition.specs.Position.{cur-pos}
 use Rattle.definition.specs.State.{advance}
 use Rattle.definition.specs.Item.{Step, blob-tok}
 use Rattle.definition.specs.Blob.{Header, unterminated, blob-stop, blob-turn, blob, lang-turn, use-lang}
-use Rattle.definition.specs.declared.Pos.{Pos}
+use Rattle.definition.specs.Token.{blob-header}
 use Rattle.definition.specs.declared.State.{State}
 use Rattle.lemmas.proofs.Loops.{says, Leads, leads-map, Falls, Any, loop-keeps, loop-same, loop-unroll}
 use Rattle.lemmas.proofs.Cases.{by-lt, by-le, by-if-lt, by-match}
@@ -26,19 +27,21 @@ use Rattle.laws_progress.proofs.Scans.{after-walks, after-onward}
 use Rattle.laws_run.specs.Going.{blob-from, lang-from}
 use Rattle.laws_run.proofs.Moving.{ended-stands}
 use Rattle.laws_run.proofs.Sizes.{part-size}
-use Rattle.laws_run.proofs.Paths.{walk-ahead, Path, stay, on, path-path, path-reads, Goes, goes-on, goes-line, going-falls, path-stands, goes-stands}
+use Rattle.laws_run.proofs.Paths.{Ahead, ahead-here, walk-ahead, Path, stay, on, path-path, path-reads, Goes, goes-on, goes-line, going-falls, path-stands, goes-stands}
 use Rattle.laws_run.proofs.Forms.{Form, blob as a-blob, error}
 
 module _ (s : Bytes) (from : ℕ) (h : Header) where
-  -- a blob whose contents began at byte `from` ends at st: with a path to its end, or unterminated
+  -- a blob whose contents began at byte `from` ends at st: with a part of the text that closes it, or unterminated
   pub data BlobEnd (st : State) : Step → Type 0 where
-    closes : {b : State} (k : ℕ) (sp ep : Pos) → Path s st b → BlobEnd st (blob-tok k (h .name) (lexeme s from (st .offset)) (h .start) sp ep (h .pos) (h .snap) b)
+    closes : {e : ℕ} (k : ℕ) → Ahead s (st .offset) e
+        → BlobEnd st
+        (blob-tok k (h .name) (lexeme s from (st .offset)) (h .start) (cur-pos s st) (cur-pos s (advance st e)) (h .pos) (h .snap) (advance st e))
     open-ended : BlobEnd st (unterminated s st)
 
   -- a turn of `blob`
   blob-leads : (st : State) → Leads (Goes s (Clean s (st .offset)) st) (BlobEnd st) (blob-turn s from h st)
   blob-leads st =
-      by-match L (match-lit s (cps "```") i) (λ e q. closes _ _ _ (on e stay (walk-ahead (word-onward s "```" refl i .at q .walk)))) λ _.
+      by-match L (match-lit s (cps "```") i) (λ e q. closes _ (walk-ahead (word-onward s "```" refl i .at q .walk))) λ _.
       by-le L (length s) i (λ _. open-ended) λ k.
       by-match L (match-newline s i) (λ nl q. goes-line st (newline-ends s i .at q)) λ _.
       record {
@@ -61,7 +64,7 @@ module _ (s : Bytes) (from : ℕ) (h : Header) where
   -- a turn of `use-lang`
   lang-leads : (st : State) → Leads (Goes s (Any st) st) (BlobEnd st) (lang-turn s from h st)
   lang-leads st =
-      by-le L (length s) i (λ _. closes _ _ _ stay) λ _.
+      by-le L (length s) i (λ _. closes _ ahead-here) λ _.
       by-lt L i (run-end is-newline-char s i) (λ l. goes-on st (walk-past (star-walks _ s i) l)) λ _.
       by-match L (match-newline s i) (λ nl q. goes-line st (newline-ends s i .at q)) (λ _. open-ended)
     where
@@ -80,7 +83,7 @@ module _ (s : Bytes) (from : ℕ) (h : Header) where
 
   -- from a sound state between comments a turn of either comes to one
   end-stands : {st : State} → Stands s st → st .mode ≡ 0 → (t : Step) → BlobEnd st t → Stands s (t .next)
-  end-stands k m t (closes n sp ep p) = path-stands p k
+  end-stands k m t (closes n a) = path-stands (on _ stay a) k
   end-stands k m t open-ended = ended-stands k m
 
   pub blob-turn-stands : (st : State) → Stands s st → st .mode ≡ 0
@@ -123,27 +126,28 @@ contents-on p q =
 begins : {s : Bytes} (st : State) {e : ℕ} → Onward s (st .offset) e → Contents s e st (advance st e)
 begins st {e} o = record { path = on e stay (walk-ahead (o .walk)); past = o .past; begun = omega arith }
 
-module _ {s name : Bytes} {U : Type 0} (h : Header) (st : State) {e : ℕ} (begun : h .start ≡ st .offset) (o : Onward s (st .offset) e)
-    (named : length (h .name) + st .offset ≤ e) where
-  contents-end : {a : State} {t : Step} → Contents s e st a → BlobEnd s e h a t → Form s name U st t
-  contents-end {a} p (closes k sp ep q) =
-      let r = path-reads q in
-      rw begun (a-blob k (h .name) (lexeme s e (a .offset)) sp ep (h .pos) (h .snap) (path-path (p .path) q) (omega (arith, p .past, r .ahead .forward))
-      (omega (arith, part-size s e (a .offset), p .begun, r .ahead .forward)))
-  contents-end {a} p open-ended = error 2 [] _ _ (p .path) (omega arith) (λ n. absurd (omega arith))
+-- the part up to e opens a blob, whose name begins after n bytes of it
+module _ {s name : Bytes} {U : Type 0} (n : ℕ) (st : State) {e : ℕ} (o : Onward s (st .offset) e) where
+  contents-end : {a : State} {t : Step} → Contents s e st a → BlobEnd s e (blob-header s st e n) a t → Form s name U st t
+  contents-end {a} p (closes k q) =
+      a-blob k (lexeme s (st .offset + n) e) (lexeme s e (a .offset)) (walk-ahead (o .walk)) (p .path) q (omega (arith, p .past, q .forward))
+      (omega (arith, part-size s (st .offset + n) e, part-size s e (a .offset), p .begun, q .forward, o .past))
+  contents-end {a} p open-ended = error 2 [] (p .path) ahead-here (omega arith) (λ n. absurd (omega arith))
 
-  -- A blob that was opened by the part up to e.
-  pub blob-form : Form s name U st (blob s h (advance st e))
+  -- A blob.
+  pub blob-form : Form s name U st (blob s (blob-header s st e n) (advance st e))
   unfolding blob
   blob-form =
+      let h = blob-header s st e n in
       loop-keeps (blob-turn s e h) (Contents s e st) (Form s name U st) (unterminated s)
       (λ a p. leads-map (λ b g. contents-on p (g .path)) (λ t q. contents-end p q) (blob-turn s e h a) (blob-leads s e h a))
       (λ a p. contents-end p open-ended) (fuel s) (advance st e) (begins st o)
 
   -- What `use_lang` reads.
-  pub lang-form : Form s name U st (use-lang s h (advance st e))
+  pub lang-form : Form s name U st (use-lang s (blob-header s st e n) (advance st e))
   unfolding use-lang
   lang-form =
+      let h = blob-header s st e n in
       loop-keeps (lang-turn s e h) (Contents s e st) (Form s name U st) (unterminated s)
       (λ a p. leads-map (λ b g. contents-on p (g .path)) (λ t q. contents-end p q) (lang-turn s e h a) (lang-leads s e h a))
       (λ a p. contents-end p open-ended) (fuel s) (advance st e) (begins st o)

@@ -83,6 +83,12 @@ pub over-rest : (vs l : List ℕ) → drop (length vs) (over vs l) ≡ drop (len
 unfolding over
 over-rest vs l = drop-append-seam vs (drop (length vs) l)
 
+-- what is after n records
+pub records-rest : (ts : List Step) (n : ℕ) (rs : List ℕ) → n ≡ length ts → drop (record-size * n) (over (records-of 0 ts) rs) ≡ drop (record-size * n) rs
+records-rest ts n rs e =
+    let m : record-size * n ≡ length (records-of 0 ts) = omega (arith, records-size 0 ts) in
+    rw m (over-rest (records-of 0 ts) rs)
+
 -- one item among others
 module _ (before : List Step) (t : Step) (after : List Step) where
   -- its record

@@ -11,6 +11,7 @@ use Rattle.definition.specs.Utf8.{encode, encode-all}
 use Rattle.definition.specs.Text.{byte-is, lexeme, run-end, after}
 use Rattle.definition.specs.Chars.{is-newline-char}
 use Rattle.definition.specs.Tables.{cps}
+use Rattle.definition.specs.Position.{col-by}
 use Rattle.definition.specs.Matchers.{match-newline}
 use Rattle.definition.specs.State.{advance, deeper}
 use Rattle.definition.specs.Item.{Step}
@@ -24,7 +25,7 @@ use Rattle.laws_progress.proofs.Matches.{newline-ends}
 use Rattle.laws_progress.proofs.Scans.{after-walks, after-onward, two-onward}
 use Rattle.laws_run.proofs.Moving.{closing-stands}
 use Rattle.laws_run.proofs.Sizes.{part-size, trim-size}
-use Rattle.laws_run.proofs.Paths.{walk-ahead, Path, stay, on, inner, path-path, path-reads, Goes, goes-on, goes-line, path-stands, goes-stands}
+use Rattle.laws_run.proofs.Paths.{Ahead, walk-ahead, Path, stay, on, inner, path-path, path-reads, Goes, goes-on, goes-line, path-stands, goes-stands}
 use Rattle.laws_run.proofs.Forms.{Piece, Form, line as a-line}
 
 -- in a comment whose text from here on has whole characters only
@@ -94,8 +95,6 @@ module _ (s : Bytes) (from : ℕ) where
           last = b;
           path = path-path p q;
           text = _;
-          sp = _;
-          ep = _;
           closed = closed;
           is = refl;
           small = omega (
@@ -116,15 +115,17 @@ module _ (s : Bytes) (from : ℕ) where
         (λ a p. leads-map (λ b g. path-path p (g .path)) (λ t e. piece p e) (comment-turn s from a) (comment-leads a (path-reads p .mode ∙ m)))
         (λ a p. piece p (ends false stay)) (fuel s) st stay
 
--- A line's comment from b on, where a part of the text up to b, or nothing, stands before it; st is where that part begins.
-pub line-comment-form : {s name : Bytes} {U : Type 0} (pre : Bytes) (st : State) (j : ℕ) → st .offset ≤ j → Onward s (st .offset) (run-end is-newline-char s j)
-    → length pre ≤ j - st .offset → Form s name U st (line-comment s (st .offset) pre (advance st j))
-unfolding line-comment
+-- A line's comment from j on, where a part of the text up to j, or nothing, stands before it; st is where that part begins.
+pub line-comment-form : {s name : Bytes} {U : Type 0} (pre : Bytes) (st : State) (j : ℕ) → Ahead s (st .offset) j
+    → Onward s (st .offset) (run-end is-newline-char s j) → length pre ≤ j - st .offset
+    → Form s name U st (line-comment s (st .offset) pre (advance st j))
+unfolding line-comment col-by
 line-comment-form {s} pre st j h o l =
-    a-line (pre ++ lexeme s j (run-end is-newline-char s j)) _ _ o
+    a-line (pre ++ lexeme s j (run-end is-newline-char s j)) h o
     (omega (
       arith,
       length-append pre (lexeme s j (run-end is-newline-char s j)),
       part-size s j (run-end is-newline-char s j),
+      h .forward,
       walk-forward (star-walks (λ c. not (is-newline-char c)) s j),
     ))

@@ -25,7 +25,7 @@ use Rattle.laws_run.proofs.RunTurns.{Finished}
 
 module _ (s name f : Bytes) where
   -- every record of some steps says how long its payload is
-  steps-measured : (st : State) (ts : List Step) (b : State) → Opened st → Steps s name f st ts b → Each Measured ts
+  pub steps-measured : (st : State) (ts : List Step) (b : State) → Opened st → Steps s name f st ts b → Each Measured ts
   steps-measured st [] b o e = none-left
   steps-measured st (t ∷ ts) b o (m, e, rest) =
       let k = subst (Kept s name st) (sym e) (step-kept s name f st o m) in

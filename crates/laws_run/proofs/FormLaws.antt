@@ -26,7 +26,7 @@ use Rattle.laws_run.specs.Left.{level, awake, left, Opened}
 use Rattle.laws_run.specs.Budget.{most, budget, longest-payload}
 use Rattle.laws_run.specs.Split.{payload-size}
 use Rattle.laws_run.proofs.Moving.{stands-within, walk-stands, one-more-stands, closing-stands, ended-stands, open-stands}
-use Rattle.laws_run.proofs.Paths.{Path, Reads, path-reads, path-stands}
+use Rattle.laws_run.proofs.Paths.{Path, on, Reads, path-reads, path-stands}
 use Rattle.laws_run.proofs.Buffers.{Measured}
 use Rattle.laws_run.proofs.Forms.{Plain, nothing, code-point, Piece, Form, token, blob, line, opened, error, IsError, Gives, Kept}
 
@@ -105,7 +105,7 @@ module _ {s : Bytes} {st : State} where
     piece-goes-on = subst (λ (x : Step). x .next .mode ≡ 2 → ⊥) (sym (p .is)) (c .goes-on)
 
     pub piece-measured : Measured t
-    piece-measured = subst Measured (sym (p .is)) (comment-measured (p .text) (p .sp) (p .ep) (p .closed) (close-comment (p .last)))
+    piece-measured = subst Measured (sym (p .is)) (comment-measured (p .text) _ _ (p .closed) _)
 
     -- the piece's bytes before st are paid besides
     pub piece-bounded : st .offset ≤ length s → length (t .payload) + budget s (t .next) ≤ (st .offset - from) + most s st
@@ -162,9 +162,9 @@ module _ {s : Bytes} {st : State} where
 
 module _ {s name : Bytes} {U : Type 0} {st : State} where
   pub form-gives : {t : Step} → st .offset ≤ length s → Form s name U st t → Gives s st t
-  form-gives w (token k text sp ep x p l b) = onward-gives _ refl p l w
-  form-gives w (blob k title contents sp ep pos snap p l b) = onward-gives _ refl p l w
-  form-gives w (line text sp ep o b) = record {
+  form-gives w (token k text x at p l b) = onward-gives _ refl p l w
+  form-gives w (blob k title contents at p e l b) = onward-gives _ refl (on _ p e) l w
+  form-gives w (line text at o b) = record {
     clean = clean-walk (o .walk);
     within = λ _. o .within;
     less = omega (arith, awake-small (st .mode), o .past, o .within);
@@ -178,64 +178,64 @@ module _ {s name : Bytes} {U : Type 0} {st : State} where
         less = omega (arith, g .less, o .past, o .within);
         opened = λ _. g .opened (λ _. omega arith);
       }
-  form-gives w (error {a} n text p1 p2 p b u) =
+  form-gives w (error {a} n text p at b u) =
       let r = path-reads p in
       record { clean = r .ahead .clean; within = r .ahead .within; less = omega (arith, r .fewer); opened = λ _ m. absurd (omega arith) }
 
   pub form-measured : {t : Step} → Form s name U st t → Measured t
   unfolding payload-size
-  form-measured (token k text sp ep x p l b) = plain-measured k text sp ep _ x
-  form-measured (blob k title contents sp ep pos snap p l b) = record { size = λ used. sym (length-append title contents) }
-  form-measured (line text sp ep o b) = comment-measured text sp ep true _
+  form-measured (token k text x at p l b) = plain-measured k text _ _ _ x
+  form-measured (blob k title contents at p e l b) = record { size = λ used. sym (length-append title contents) }
+  form-measured (line text at o b) = comment-measured text _ _ true _
   form-measured (opened o p) = piece-measured (omega arith) p
-  form-measured (error n text p1 p2 p b u) = record { size = λ used. add-zero (length text) }
+  form-measured (error n text p at b u) = record { size = λ used. add-zero (length text) }
 
   -- an error of number 6 says U
   pub form-number : {t : Step} → Form s name U st t → error-number (t .item .extra) ≡ 6 → U
-  form-number (token k text sp ep nothing p l b) q = absurd (omega arith)
-  form-number (token k text sp ep (code-point c) p l b) q = absurd (omega arith)
-  form-number (blob k title contents sp ep pos snap p l b) q = absurd (omega arith)
-  form-number (line text sp ep o b) q = absurd (omega arith)
+  form-number (token k text nothing at p l b) q = absurd (omega arith)
+  form-number (token k text (code-point c) at p l b) q = absurd (omega arith)
+  form-number (blob k title contents at p e l b) q = absurd (omega arith)
+  form-number (line text at o b) q = absurd (omega arith)
   form-number (opened o p) q =
       let z : error-number (Comment (p .closed)) ≡ 6 = subst (λ (x : Step). error-number (x .item .extra) ≡ 6) (p .is) q in absurd (omega arith)
-  form-number (error n text p1 p2 p b u) q = u q
+  form-number (error n text p at b u) q = u q
 
   module _ (m : st .mode ≡ 0) where
     -- if the reading is over after it, it is an ERROR
     pub form-last : {t : Step} → Form s name U st t → t .next .mode ≡ 2 → IsError (t .item .extra)
-    form-last (token k text sp ep x p l b) q = let r = path-reads p in absurd (omega (arith, r .mode))
-    form-last (blob k title contents sp ep pos snap p l b) q = let r = path-reads p in absurd (omega (arith, r .mode))
-    form-last (line text sp ep o b) q = absurd (omega arith)
+    form-last (token k text x at p l b) q = let r = path-reads p in absurd (omega (arith, r .mode))
+    form-last (blob k title contents at p e l b) q = let r = path-reads p in absurd (omega (arith, r .mode))
+    form-last (line text at o b) q = absurd (omega arith)
     form-last (opened o p) q = absurd (piece-goes-on (omega arith) p q)
-    form-last (error n text p1 p2 p b u) q = tt
+    form-last (error n text p at b u) q = tt
 
     pub form-sound : {t : Step} → Form s name U st t → Stands s st → Stands s (t .next)
-    form-sound (token k text sp ep x p l b) h = path-stands p h
-    form-sound (blob k title contents sp ep pos snap p l b) h = path-stands p h
-    form-sound (line text sp ep o b) h = one-more-stands (walk-stands h (o .walk)) (omega (arith, h .sound .comments, o .past))
+    form-sound (token k text x at p l b) h = path-stands p h
+    form-sound (blob k title contents at p e l b) h = path-stands (on _ p e) h
+    form-sound (line text at o b) h = one-more-stands (walk-stands h (o .walk)) (omega (arith, h .sound .comments, o .past))
     form-sound (opened o p) h = piece-sound p (open-stands h m o) refl
-    form-sound (error n text p1 p2 p b u) h = ended-stands (path-stands p h) (path-reads p .mode ∙ m)
+    form-sound (error n text p at b u) h = ended-stands (path-stands p h) (path-reads p .mode ∙ m)
 
   pub form-bounded : {t : Step} → Form s name U st t → Stands s st → length name ≤ 4096 → length (t .payload) + budget s (t .next) ≤ most s st
   unfolding budget
-  form-bounded (token {a} k text sp ep x p l b) h n =
+  form-bounded (token {a} k text x at p l b) h n =
       let r = path-reads p .spent (stands-within h) in
       ⊎-elim (λ c. plenty (length text) _ _ _ (budget-most s a) r l c) (λ c. enough (length text) _ _ _ _ (budget-most s a) r n (c .0) (c .1)) (b (line-small h))
-  form-bounded (blob {a} k title contents sp ep pos snap p l b) h n =
-      omega (arith, length-append title contents, path-reads p .spent (stands-within h), budget-most s a)
-  form-bounded (line {j} text sp ep o b) h n = omega (arith, o .within, o .past, budget-most s (one-more-comment (advance st j)))
+  form-bounded (blob {a} {e = j} k title contents at p e l b) h n =
+      omega (arith, length-append title contents, path-reads (on _ p e) .spent (stands-within h), budget-most s (advance a j))
+  form-bounded (line {j = j} text at o b) h n = omega (arith, o .within, o .past, budget-most s (one-more-comment (advance st j)))
   form-bounded (opened o p) h n = omega (arith, piece-bounded (omega arith) p (o .within), o .past, o .within)
-  form-bounded (error {a} n′ text p1 p2 p b u) h n = omega (arith, path-reads p .spent (stands-within h))
+  form-bounded (error {a} n′ text p at b u) h n = omega (arith, path-reads p .spent (stands-within h))
 
   pub form-short : {t : Step} → Form s name U st t → Stands s st → length name ≤ 50 → length (t .payload) ≤ longest-payload s
-  form-short (token k text sp ep x p l b) h n =
+  form-short (token k text x at p l b) h n =
       let w = path-reads p .ahead .within (stands-within h) in
       ⊎-elim (λ c. omega (arith, c)) (λ c. omega (arith, c .0)) (b (line-small h))
-  form-short (blob k title contents sp ep pos snap p l b) h n =
-      omega (arith, length-append title contents, path-reads p .ahead .within (stands-within h))
-  form-short (line text sp ep o b) h n = omega (arith, o .within)
+  form-short (blob k title contents at p e l b) h n =
+      omega (arith, length-append title contents, path-reads (on _ p e) .ahead .within (stands-within h))
+  form-short (line text at o b) h n = omega (arith, o .within)
   form-short (opened o p) h n = omega (arith, piece-short (omega arith) p (o .within))
-  form-short (error n′ text p1 p2 p b u) h n = omega arith
+  form-short (error n′ text p at b u) h n = omega arith
 
   -- Every form keeps all of it.
   pub form-kept : {t : Step} → (Stands s st → st .mode ≡ 0) → st .offset ≤ length s → Form s name U st t → Kept s name st t

@@ -6,10 +6,9 @@ use mathlib.Core.Bool.{Bool, true}
 use mathlib.Core.Logic.{_⊎_}
 use lib.ListN.{length}
 use Rattle.definition.specs.Basics.{Bytes}
-use Rattle.definition.specs.Position.{cur-pos}
+use Rattle.definition.specs.Position.{pos-of, cur-pos}
 use Rattle.definition.specs.State.{advance, one-more-comment, open-comment, close-comment}
 use Rattle.definition.specs.Item.{Step, tok, blob-tok, lex-error, add-comment}
-use Rattle.definition.specs.declared.Pos.{Pos}
 use Rattle.definition.specs.declared.State.{State}
 use Rattle.definition.specs.declared.Extra.{Extra}
 use Rattle.definition.specs.declared.Extra.the-variants.{NoExtra, CharLit, Blob, LexError, Comment}
@@ -17,7 +16,7 @@ use Rattle.state.specs.Sound.{Stands}
 use Rattle.laws_progress.proofs.Walks.{Onward, Clean}
 use Rattle.laws_run.specs.Left.{level, left, Opened}
 use Rattle.laws_run.specs.Budget.{most, budget, longest-payload}
-use Rattle.laws_run.proofs.Paths.{Path}
+use Rattle.laws_run.proofs.Paths.{Ahead, Path}
 use Rattle.laws_run.proofs.Buffers.{Measured}
 
 -- ---- the forms
@@ -34,29 +33,30 @@ pub data Plain : Extra → Type 0 where
   nothing : Plain NoExtra
   code-point : (c : ℕ) → Plain (CharLit c)
 
--- a piece of a comment that began at byte `from` and is read on from st
+-- a piece of a comment that began at byte `from` and is read on from st: its start is the comment's, and its end is where reading stands
 pub record Piece (s : Bytes) (from : ℕ) (st : State) (t : Step) : Type 0 where
   pub began : from ≤ st .offset
   pub last : State
   pub path : Path s st last
   pub text : Bytes
-  pub sp : Pos
-  pub ep : Pos
   pub closed : Bool
-  pub is : t ≡ add-comment text from sp ep closed (close-comment last)
+  pub is : t ≡ add-comment text from (last .comment) (cur-pos s last) closed (close-comment last)
   pub small : length text ≤ (last .offset - from) + 2
 
--- what is read from st on; U is what an error of number 6 says
+-- what is read from st on. Each position is that of a place ahead, on st's line or on the line of a state a that one reads on to: there a
+-- token ends, or a blob's contents do, or reading stops with an error. U is what an error of number 6 says
 pub data Form (s name : Bytes) (U : Type 0) (st : State) : Step → Type 0 where
-  token : {a : State} {x : Extra} (k : ℕ) (text : Bytes) (sp ep : Pos) → Plain x → Path s st a → st .offset < a .offset → Small name st a text
-      → Form s name U st (tok k text (st .offset) sp ep x a)
-  blob : {a : State} (k : ℕ) (title contents : Bytes) (sp ep pos snap : Pos) → Path s st a → st .offset < a .offset
-      → length title + length contents ≤ a .offset - st .offset → Form s name U st (blob-tok k title contents (st .offset) sp ep pos snap a)
-  line : {j : ℕ} (text : Bytes) (sp ep : Pos) → Onward s (st .offset) j → length text ≤ j - st .offset
-      → Form s name U st (add-comment text (st .offset) sp ep true (one-more-comment (advance st j)))
+  token : {a : State} {x : Extra} {i : ℕ} (k : ℕ) (text : Bytes) → Plain x → Ahead s (st .offset) i → Path s st a → st .offset < a .offset
+      → Small name st a text → Form s name U st (tok k text (st .offset) (pos-of s st i) (cur-pos s a) x a)
+  blob : {a : State} {i e : ℕ} (k : ℕ) (title contents : Bytes) → Ahead s (st .offset) i → Path s st a → Ahead s (a .offset) e → st .offset < e
+      → length title + length contents ≤ e - st .offset
+      → Form s name U st
+      (blob-tok k title contents (st .offset) (cur-pos s a) (cur-pos s (advance a e)) (pos-of s st i) (cur-pos s st) (advance a e))
+  line : {i j : ℕ} (text : Bytes) → Ahead s (st .offset) i → Onward s (st .offset) j → length text ≤ j - st .offset
+      → Form s name U st (add-comment text (st .offset) (pos-of s st i) (pos-of s st j) true (one-more-comment (advance st j)))
   opened : {e : ℕ} {t : Step} → Onward s (st .offset) e → Piece s (st .offset) (open-comment (advance st e) (cur-pos s st)) t → Form s name U st t
-  error : {a : State} (n : ℕ) (text : Bytes) (p1 p2 : Pos) → Path s st a → length text ≤ length s - a .offset → (n ≡ 6 → U)
-      → Form s name U st (lex-error s a n text p1 p2)
+  error : {a : State} {i : ℕ} (n : ℕ) (text : Bytes) → Path s st a → Ahead s (a .offset) i → length text ≤ length s - a .offset → (n ≡ 6 → U)
+      → Form s name U st (lex-error s a n text (cur-pos s a) (pos-of s a i))
 
 -- an ERROR, by what it holds besides
 abbrev pub IsError : Extra → Type 0

@@ -1,4 +1,4 @@
--- No fuel of the definition ever runs out. `loop` stands in ten definitions; for each, `..-enough` says that more fuel and
+-- No fuel of the definition ever runs out. `loop` stands in eleven definitions; for each, `..-enough` says that more fuel and
 -- another `out` change nothing, and `..-unroll` that it is what its first turn says, with itself for a further call. Where a
 -- definition only begins a loop, the loop has a name, `..-from` or `show-onto`, and `..-is` says what the definition is by it. (Those of
 -- readers and runs stand in specs/Going.antt.)
@@ -11,6 +11,7 @@
 --   blob          from an offset on from which the text has whole characters only (`Clean`)
 --   lang          `use-lang`: for any text and state
 --   token         `next-token`: for any text and state
+--   chosen        `chosen-at`: for any text and state
 --   run           `run-items`: from a state that has a level open if it is in a comment (`Opened`)
 -- What `comment`, `blob` and `run-items` ask holds at the start of every run that isn't refused (`run-stands`, and a sound state has it:
 -- `stands-clean`), at every state that it comes to (`reached-stands`), and after every choice at such a state (`choice-clean`). Rests on
@@ -34,5 +35,6 @@ pub use Rattle.laws_run.proofs.CommentReader.{InComment, comment-enough
 pub use Rattle.laws_run.proofs.StringReader.{string-enough, string-unroll, string-is}
 pub use Rattle.laws_run.proofs.BlobReader.{blob-enough, blob-unroll, blob-is, lang-enough, lang-unroll, lang-is}
 pub use Rattle.laws_run.proofs.Steps.{token-enough, token-unroll, reached-stands}
+pub use Rattle.laws_run.proofs.Choosing.{chosen-enough, chosen-unroll}
 pub use Rattle.laws_run.proofs.Refusals.{run-stands}
 pub use Rattle.laws_run.proofs.RunFuel.{run-enough, run-unroll, run-is}

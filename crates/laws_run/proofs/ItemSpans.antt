@@ -73,12 +73,12 @@ piece-span p l =
 
 -- every form
 pub form-span : {s name : Bytes} {U : Type 0} {st : State} {t : Step} → Form s name U st t → Span st t
-form-span (token k text sp ep nothing p l b) = plain-span (omega arith) refl refl (λ e. e)
-form-span (token k text sp ep (code-point c) p l b) = plain-span (omega arith) refl refl (λ e. e)
-form-span (blob k title contents sp ep pos snap p l b) = plain-span (omega arith) refl refl (λ e. e)
-form-span (line text sp ep o b) = plain-span (omega (arith, o .past)) refl refl (λ e. e)
+form-span (token k text nothing at p l b) = plain-span (omega arith) refl refl (λ e. e)
+form-span (token k text (code-point c) at p l b) = plain-span (omega arith) refl refl (λ e. e)
+form-span (blob k title contents at p e l b) = plain-span (omega arith) refl refl (λ e. e)
+form-span (line text at o b) = plain-span (omega (arith, o .past)) refl refl (λ e. e)
 form-span (opened o p) = piece-span p (omega (arith, o .past))
-form-span (error n text p1 p2 p b u) = record {
+form-span (error n text p at b u) = record {
   to = refl;
   forward = path-reads p .ahead .forward;
   from = λ plain. absurd (plain tt);
@@ -138,7 +138,7 @@ module _ (s name f : Bytes) where
     chosen-span c = subst (Leads Any (Span (c .at))) (c .gives) (turn-span (c .at))
 
     -- in a comment it is a piece
-    carried-piece : st .mode ≡ 1 → Piece s (st .offset) st t
+    pub carried-piece : st .mode ≡ 1 → Piece s (st .offset) st (step s name f st)
     carried-piece m = subst (Piece s (st .offset) st) (sym (step-inside s name f st m)) (comment-piece s (st .offset) st (omega arith) m)
 
     -- what holds outside a comment and in one

@@ -28,7 +28,7 @@ use Rattle.definition.specs.Items.{Told, told, items-of, records-of, payloads-o
 use Rattle.laws_run.specs.Written.{Done}
 use Rattle.laws_run.specs.Split.{written-by, Split, no-run, then-run}
 use Rattle.laws_run.proofs.Items.{steps-of-end}
-use Rattle.laws_run.proofs.Buffers.{records-size, over-rest, record-there, payload-there}
+use Rattle.laws_run.proofs.Buffers.{over-rest, records-rest, record-there, payload-there}
 use Rattle.laws_run.proofs.RunTurns.{Finished, run-finished}
 use Rattle.laws_run.proofs.Finding.{done-items, done-whole}
 
@@ -82,10 +82,7 @@ module _ (s name f : Bytes) where
 
       -- The rest of both buffers is what it was.
       pub records-kept : drop (record-size * run s name f st rs ps .0 .count) (run s name f st rs ps .1) ≡ drop (record-size * run s name f st rs ps .0 .count) rs
-      records-kept =
-          let d = run-done in
-          let e : record-size * o .0 .count ≡ length (records-of 0 (d .ts)) = omega (arith, records-size 0 (d .ts), d .count) in
-          rw (e, d .filled .records) (over-rest (records-of 0 (d .ts)) rs)
+      records-kept = rw (run-done .filled .records) (records-rest (run-done .ts) (o .0 .count) rs (run-done .count))
 
       pub payload-kept : drop (length (payloads-of (run-done .ts))) (run s name f st rs ps .2) ≡ drop (length (payloads-of (run-done .ts))) ps
       payload-kept = ap (drop (length (payloads-of (run-done .ts)))) (run-done .filled .payload) ∙ over-rest (payloads-of (run-done .ts)) ps

@@ -22,7 +22,11 @@ pub record Ahead (s : Bytes) (i j : ℕ) : Type 0 where
   pub within : i ≤ length s → j ≤ length s
   pub clean : Clean s i → Clean s j
 
--- a walk by whole characters does
+-- staying there does
+pub ahead-here : {s : Bytes} {i : ℕ} → Ahead s i i
+ahead-here = record { forward = omega arith; within = λ h. h; clean = λ c. c }
+
+-- so does a walk by whole characters
 pub walk-ahead : {s : Bytes} {i j : ℕ} → Walk s i j → Ahead s i j
 walk-ahead u = record { forward = walk-forward u; within = walk-within u; clean = clean-walk u }
 
@@ -81,7 +85,7 @@ module _ {s : Bytes} where
 
   pub path-reads : {st b : State} → Path s st b → Reads s st b
   path-reads stay = record {
-    ahead = record { forward = omega arith; within = λ h. h; clean = λ c. c };
+    ahead = ahead-here;
     fewer = omega arith;
     less = λ _. omega arith;
     deep = omega arith;

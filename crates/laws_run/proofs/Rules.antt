@@ -16,15 +16,14 @@ use Rattle.definition.specs.Utf8.{encode, encode-all}
 use Rattle.definition.specs.Text.{byte-is, lexeme}
 use Rattle.definition.specs.Chars.{is-newline-char}
 use Rattle.definition.specs.Tables.{Entry, cps, find, keywords, constructors, uoperators}
-use Rattle.definition.specs.Position.{cur-pos}
+use Rattle.definition.specs.Position.{pos-of, cur-pos}
 use Rattle.definition.specs.Kinds.{kind}
 use Rattle.definition.specs.Matchers.{no-comment}
 use Rattle.definition.specs.Numbers.{clean-number, int-of-string, show}
 use Rattle.definition.specs.Rules.{Rule, REarly, RTripleBacktick, RLang, RSourceFile, RLine, RFileLine, RWhite, RNewline, RCharLit, RCharLitB, RBacktick, RKwOp, RSemiSemi, RIdent, RConstructor, RInt, RUInt8, RNumber, RReal, RBadNumber, RCommentStart, RInFStar, RLineComment, RString, RBacktickIdent, RPipeLeft, RPipeRight, RDotDot, ROpToken, RLt, RGt, ROp, RUOperator, RMixfix, RAny}
 use Rattle.definition.specs.State.{advance, open-comment}
 use Rattle.definition.specs.Item.{Step, lex-error}
-use Rattle.definition.specs.Token.{reserved-prefix, starts-with, finish, finish-entry, finish-word, blob-header, char-lit, kw-op, ident, uint8, gt, op, by-rule}
-use Rattle.definition.specs.declared.Pos.{Pos}
+use Rattle.definition.specs.Token.{reserved-prefix, starts-with, finish, finish-entry, finish-word, char-lit, kw-op, ident, uint8, gt, op, by-rule}
 use Rattle.definition.specs.declared.State.{State}
 use Rattle.lemmas.proofs.Loops.{Leads}
 use Rattle.lemmas.proofs.Cases.{by-test, by-lt}
@@ -32,7 +31,7 @@ use Rattle.laws_progress.proofs.Walks.{Onward, onward-walk, walk-past, walk-for
 use Rattle.laws_progress.proofs.Cuts.{slash-goes-on, slash-at, no-comment-walks, no-comment-onward, no-comment-slash}
 use Rattle.laws_progress.proofs.Scans.{star-onward}
 use Rattle.laws_run.proofs.Sizes.{part-size, part-within, texts-small, find-small, clean-size, line-size}
-use Rattle.laws_run.proofs.Paths.{walk-ahead, stay, on, Goes, goes-on, goes-line}
+use Rattle.laws_run.proofs.Paths.{ahead-here, walk-ahead, stay, on, Goes, goes-on, goes-line}
 use Rattle.laws_run.proofs.Forms.{Small, nothing, code-point, Form, token, opened, error}
 use Rattle.laws_run.proofs.CommentReader.{comment-piece, line-comment-form}
 use Rattle.laws_run.proofs.StringReader.{string-form}
@@ -43,7 +42,7 @@ abbrev pub Says : Bytes → Bytes → Type 0 → State → Turn State Step → T
 Says s name U st = Leads (Goes s (Unit {0}) st) (Form s name U st)
 
 -- what a rule asks besides of a choice that ends at e: a keyword operator doesn't begin with a slash, the words that stand for the name
--- are long, and the text of an operator token is short. `RAny` says U
+-- are long, the text of an operator token is short, and a `>` is one byte. `RAny` says U
 abbrev pub Asks : Bytes → Type 0 → State → ℕ → Rule → Type 0
 Asks s U st e (REarly k) = Unit {0}
 Asks s U st e RTripleBacktick = Unit {0}
@@ -75,7 +74,7 @@ Asks s U st e RPipeRight = Unit {0}
 Asks s U st e RDotDot = Unit {0}
 Asks s U st e (ROpToken k text) = length (cps text) ≤ 100
 Asks s U st e RLt = Unit {0}
-Asks s U st e RGt = Unit {0}
+Asks s U st e RGt = Onward s (st .offset) (st .offset + 1)
 Asks s U st e (ROp k) = Unit {0}
 Asks s U st e RUOperator = Unit {0}
 Asks s U st e (RMixfix k) = Unit {0}
@@ -89,7 +88,7 @@ module _ (s name : Bytes) (U : Type 0) (st : State) where
 
   -- a token up to j
   up-to : {j : ℕ} (k : ℕ) (text : Bytes) → Onward s i j → Small name st (advance st j) text → Says s name U st (finish s st j k text)
-  up-to {j} k text o b = token k text _ _ nothing (on j stay (walk-ahead (o .walk))) (o .past) b
+  up-to {j} k text o b = token k text nothing ahead-here (on j stay (walk-ahead (o .walk))) (o .past) b
 
   -- with a text that is at most as long as what was read and a hundred bytes
   short-up-to : {j : ℕ} (k : ℕ) (text : Bytes) → Onward s i j → length text ≤ (j - i) + 100 → Says s name U st (finish s st j k text)
@@ -109,9 +108,9 @@ module _ (s name : Bytes) (U : Type 0) (st : State) where
         go (some y) q = short-up-to (kind (y .kind)) (cps (y .text)) o (omega (arith, find-small (lexeme s i e) table y small q))
         go none q = part-up-to (kind k) i e (omega arith) (omega arith)
 
-    -- an error at st without a payload
-    error-says : (n : ℕ) {p1 p2 : Pos} → (n ≡ 6 → ⊥) → Form s name U st (lex-error s st n [] p1 p2)
-    error-says n {p1} {p2} u = error {a = st} n [] p1 p2 stay (omega arith) (λ q. absurd (u q))
+    -- an error at st without a payload, of the range up to e
+    error-says : (n : ℕ) → (n ≡ 6 → ⊥) → Form s name U st (lex-error s st n [] (cur-pos s st) (pos-of s st e))
+    error-says n u = error n [] stay (walk-ahead (o .walk)) (omega arith) (λ q. absurd (u q))
 
     -- an identifier, unless its prefix is reserved
     ident-says : Says s name U st (ident s st e)
@@ -132,22 +131,22 @@ module _ (s name : Bytes) (U : Type 0) (st : State) where
 
     -- a character
     char-says : Says s name U st (char-lit s st e)
-    char-says = token _ [] _ _ (code-point _) (on e stay (walk-ahead (o .walk))) (o .past) (λ _. inl (omega arith))
+    char-says = token _ [] (code-point _) ahead-here (on e stay (walk-ahead (o .walk))) (o .past) (λ _. inl (omega arith))
 
     -- a keyword before operators, which begins with no slash
     kw-op-says : (x : _) → (byte-is (ch "/") s i ≡ true → ⊥) → Says s name U st (kw-op s st e x)
     kw-op-says x n =
         let c = no-comment-onward s i i e o (omega arith) (λ t. absurd (n t)) in
         let rest = lexeme s (i + length (cps (x .word))) (no-comment s i e) in
-        token _ rest _ _ nothing (on (no-comment s i e) stay (walk-ahead (c .walk))) (c .past)
+        token _ rest nothing ahead-here (on (no-comment s i e) stay (walk-ahead (c .walk))) (c .past)
         (λ _. inl (omega (arith, part-size s (i + length (cps (x .word))) (no-comment s i e))))
 
-    -- a `>`, which the payload has too
-    gt-says : Says s name U st (gt s st e)
-    gt-says =
+    -- a `>`, which the payload has too; its position is the one after it
+    gt-says : Onward s i (i + 1) → Says s name U st (gt s st e)
+    gt-says first =
         let c = no-comment-onward s i (i + 1) e o (omega arith) (λ _. omega arith) in
-        token _ (ch ">" ∷ lexeme s (i + 1) (no-comment s (i + 1) e)) _ _ nothing (on (no-comment s (i + 1) e) stay (walk-ahead (c .walk))) (c .past)
-        (λ _. inl (omega (arith, part-size s (i + 1) (no-comment s (i + 1) e))))
+        token _ (ch ">" ∷ lexeme s (i + 1) (no-comment s (i + 1) e)) nothing (walk-ahead (first .walk))
+        (on (no-comment s (i + 1) e) stay (walk-ahead (c .walk))) (c .past) (λ _. inl (omega (arith, part-size s (i + 1) (no-comment s (i + 1) e))))
 
     -- an operator; cut to nothing it is a line's comment, which begins with the slash
     op-says : (k : String) → Says s name U st (op s st e k)
@@ -155,7 +154,7 @@ module _ (s name : Bytes) (U : Type 0) (st : State) where
         by-test (Says s name U st) (eqb e′ i)
         (λ t.
         let q = slash-at s i (no-comment-slash s i e (o .past) (eqb-true e′ i t)) in
-        line-comment-form [] st i (omega arith) (star-onward (λ c. not (is-newline-char c)) s i (ch "/") 1 (q .1) slash-goes-on) (omega arith))
+        line-comment-form [] st i ahead-here (star-onward (λ c. not (is-newline-char c)) s i (ch "/") 1 (q .1) slash-goes-on) (omega arith))
         (λ t.
         let q : e′ ≡ i → ⊥ = eqb-false e′ i t in
         let u = no-comment-walks s i i e (o .walk) (omega arith) in
@@ -179,18 +178,14 @@ module _ (s name : Bytes) (U : Type 0) (st : State) where
           h,
         )
 
-    -- a blob's name is a part of what was chosen
-    title : (n : ℕ) → length (blob-header s st e n .name) + i ≤ e
-    title n = omega (arith, part-size s (i + n) e, o .past)
-
     -- ---- every rule
 
     -- What each rule does with a choice.
     pub rule-says : (f : Bytes) (r : Rule) → Asks s U st e r → Says s name U st (by-rule s name f st e r)
     unfolding constructors uoperators cps encode-all encode
     rule-says f (REarly k) h = short-up-to (kind k) [] o (omega arith)
-    rule-says f RTripleBacktick h = blob-form (blob-header s st e 3) st refl o (title 3)
-    rule-says f RLang h = lang-form (blob-header s st e 6) st refl o (title 6)
+    rule-says f RTripleBacktick h = blob-form 3 st o
+    rule-says f RLang h = lang-form 6 st o
     rule-says f RSourceFile h = up-to (kind "STRING") name o (λ _. inr (omega arith, h))
     rule-says f RLine h = up-to (kind "INT") (show (st .line)) o (λ l. inl (omega (arith, line-size (st .line) l)))
     rule-says f RFileLine h = file-line-says h
@@ -207,20 +202,20 @@ module _ (s name : Bytes) (U : Type 0) (st : State) where
     rule-says f RUInt8 h = uint8-says
     rule-says f (RNumber k) h = number-says (kind k)
     rule-says f RReal h = part-up-to (kind "REAL") i (e - 1) (omega arith) (omega arith)
-    rule-says f RBadNumber h = error {a = st} 5 (lexeme s i e) _ _ stay (omega (arith, part-within s i e)) (λ q. absurd (omega arith))
+    rule-says f RBadNumber h = error 5 (lexeme s i e) stay (walk-ahead (o .walk)) (omega (arith, part-within s i e)) (λ q. absurd (omega arith))
     rule-says f RCommentStart h = opened o (comment-piece s i (open-comment (advance st e) (cur-pos s st)) (omega (arith, o .past)) refl)
     rule-says f RInFStar h = goes-on st o
     rule-says f RLineComment h =
-        line-comment-form (lexeme s i e) st e (omega (arith, o .past)) (onward-walk o (star-walks (λ c. not (is-newline-char c)) s e)) (part-size s i e)
-    rule-says f RString h = string-form s f i (cur-pos s st) st refl o
+        line-comment-form (lexeme s i e) st e (walk-ahead (o .walk)) (onward-walk o (star-walks (λ c. not (is-newline-char c)) s e)) (part-size s i e)
+    rule-says f RString h = string-form s f st o
     rule-says f RBacktickIdent h = part-up-to (kind "IDENT") (i + 2) (e - 2) (omega arith) (omega arith)
     rule-says f RPipeLeft h = short-up-to (kind "PIPE_LEFT") [] o (omega arith)
     rule-says f RPipeRight h = short-up-to (kind "PIPE_RIGHT") [] o (omega arith)
     rule-says f RDotDot h = short-up-to (kind "DOT_DOT") [] o (omega arith)
     rule-says f (ROpToken k text) h = short-up-to (kind k) (cps text) o (omega (arith, h))
     rule-says f RLt h = short-up-to (kind "OPINFIX0c") (cps "<") o (omega arith)
-    rule-says f RGt h = gt-says
+    rule-says f RGt h = gt-says h
     rule-says f (ROp k) h = op-says k
     rule-says f RUOperator h = word-says uoperators "OPINFIX4" refl
     rule-says f (RMixfix k) h = part-up-to (kind k) i e (omega arith) (omega arith)
-    rule-says f RAny h = error {a = st} 6 [] _ _ stay (omega arith) (λ _. h)
+    rule-says f RAny h = error 6 [] stay ahead-here (omega arith) (λ _. h)

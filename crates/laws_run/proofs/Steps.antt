@@ -28,13 +28,15 @@ use Rattle.lemmas.proofs.Loops.{says, Leads, leads-map, Falls, Any, loop-keeps,
 use Rattle.lemmas.proofs.Cases.{by-test, by-le}
 use Rattle.lemmas.proofs.Each.{Numbered, no-more, _⨟_, numbered-within}
 use Rattle.state.specs.Sound.{Stands}
-use Rattle.laws_progress.proofs.Walks.{rest}
+use Rattle.laws_progress.proofs.Characters.{char-at}
+use Rattle.laws_progress.proofs.Walks.{rest, Onward, char-onward}
 use Rattle.laws_progress.proofs.Cuts.{slash-at}
 use Rattle.laws_progress.proofs.Choices.{kw-op-place, Chosen, select-fits}
+use Rattle.laws_longest.proofs.Language.{permits-at}
 use Rattle.laws_longest.proofs.Law.{select-longest}
 use Rattle.laws_run.proofs.Sizes.{entry-small}
 use Rattle.laws_run.proofs.Moving.{stands-within}
-use Rattle.laws_run.proofs.Paths.{Path, stay, path-path, path-reads, Goes, goes-stands, going-falls}
+use Rattle.laws_run.proofs.Paths.{ahead-here, Path, stay, path-path, path-reads, Goes, goes-stands, going-falls}
 use Rattle.laws_run.specs.Left.{Opened}
 use Rattle.laws_run.specs.Budget.{budget, longest-payload}
 use Rattle.laws_run.proofs.FormLaws.{budget-most, most-budget, piece-sound, piece-kept, form-kept, eof-kept, error-kept, path-kept}
@@ -83,6 +85,14 @@ module _ (s f : Bytes) (U : Type 0) (st : State) (e w : ℕ) where
   unfolding pattern patterns encode-all encode
   file-line-long p = omega (arith, permitted-size (codes "__FILELINE__") s i e p)
 
+  -- a `>` is one byte
+  gt-one : Permitted s f 38 i e → Onward s i (i + 1)
+  unfolding pattern patterns
+  gt-one p =
+      let c = permits-at s (pattern f 38) i e p .1 .1 in
+      let q = eqb-true (c .code) (ch ">") (c .passes) in
+      subst (λ (n : ℕ). Onward s i (i + n)) (char-at (c .read) .ascii (omega (arith, q))) (char-onward (c .read))
+
   -- most rules ask nothing
   plain : {X Y : Type 0} → X → Y → Unit {0}
   plain _ _ = tt
@@ -99,7 +109,9 @@ module _ (s f : Bytes) (U : Type 0) (st : State) (e w : ℕ) where
       ⨟ plain ⨟ plain ⨟ plain ⨟ plain ⨟ plain ⨟ plain ⨟ plain ⨟ plain ⨟ plain ⨟ plain ⨟ plain ⨟ plain ⨟ plain ⨟ plain ⨟ plain ⨟ plain
       ⨟ plain ⨟ plain ⨟ plain ⨟ plain ⨟ plain ⨟ plain ⨟ plain
       ⨟ (λ _ _. entry-small op-tokens w refl)  -- 36 ROpToken
-      ⨟ plain ⨟ plain ⨟ plain ⨟ plain ⨟ plain ⨟ plain ⨟ plain ⨟ plain ⨟ plain ⨟ plain ⨟ plain ⨟ plain ⨟ plain ⨟ plain
+      ⨟ plain
+      ⨟ (λ _ p. gt-one p)  -- 38 RGt
+      ⨟ plain ⨟ plain ⨟ plain ⨟ plain ⨟ plain ⨟ plain ⨟ plain ⨟ plain ⨟ plain ⨟ plain ⨟ plain ⨟ plain
       ⨟ no-more
 
 -- so does the rule of the choice at st; where that is none of the places, the rule is `RAny`
@@ -146,7 +158,7 @@ module _ (s name f : Bytes) where
       asks = choice-gets s f st c (select-longest s f (st .offset) h) chosen
 
       go : (k : ℕ) → c .place ≡ k → Says s name (c .place ≡ 0) st (by-rule s name f st (c .end) (getD (RAny ∷ place-rules (c .word)) k RAny))
-      go zero q = error {a = st} 6 [] _ _ stay (omega arith) (λ _. q)
+      go zero q = error 6 [] stay ahead-here (omega arith) (λ _. q)
       go (suc k) q =
           rule-says s name (c .place ≡ 0) st (chosen (λ z. absurd (omega arith)) .onward) f (getD (RAny ∷ place-rules (c .word)) (suc k) RAny) (asks (suc k) q)
 
@@ -171,12 +183,16 @@ module _ (s name f : Bytes) where
 
   -- ---- `next-token`
 
-  -- each turn reads something
-  pub token-falls : Falls (token-turn s name f) Any (λ st. rest s (st .offset)) Any
+  -- what a turn skips is a path, from any state on
+  pub turn-skips : (st : State) → Leads (Goes s (Unit {0}) st) Any (token-turn s name f st)
   unfolding token-turn
-  token-falls = going-falls s (λ st. st) (token-turn s name f) Any (λ st. Any) (λ st b p c. c) λ st.
+  turn-skips st =
       by-le (Leads (Goes s (Unit {0}) st) Any) (length s) (st .offset) (λ _. tt)
       (λ l. leads-map (λ b g. g) (λ t k. tt) (act s name f st (select s f (st .offset))) (act-says st (omega arith)))
+
+  -- each turn reads something
+  pub token-falls : Falls (token-turn s name f) Any (λ st. rest s (st .offset)) Any
+  token-falls = going-falls s (λ st. st) (token-turn s name f) Any (λ st. Any) (λ st b p c. c) turn-skips
 
   -- more fuel and another `out` change nothing
   pub token-enough : (out : State → Step) (n : ℕ) (st : State) → rest s (st .offset) < n → loop (token-turn s name f) out n st ≡ next-token s name f st

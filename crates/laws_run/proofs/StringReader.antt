@@ -37,7 +37,7 @@ use Rattle.laws_progress.proofs.Scans.{star-onward}
 use Rattle.laws_run.specs.Going.{string-from}
 use Rattle.laws_run.proofs.Moving.{walk-stands, ended-stands}
 use Rattle.laws_run.proofs.Sizes.{part-size}
-use Rattle.laws_run.proofs.Paths.{walk-ahead, Path, stay, on, path-path, path-reads, Goes, goes-on, goes-line, goes-stands}
+use Rattle.laws_run.proofs.Paths.{ahead-here, walk-ahead, Path, stay, on, path-path, path-reads, Goes, goes-on, goes-line, goes-stands}
 use Rattle.laws_run.proofs.Forms.{Form, token, error, nothing}
 
 module _ (s : Bytes) where
@@ -177,29 +177,41 @@ module _ (s : Bytes) where
     unfolding string-lit string-from
     string-is st = refl
 
-    -- a string that was opened at st is read as far as a
-    record Literal (st : State) (a : State × Bytes) : Type 0 where
+  -- a string that began at st
+  module _ (f : Bytes) (st : State) where
+    abbrev from : ℕ
+    from = st .offset
+
+    abbrev sp : Pos
+    sp = cur-pos s st
+
+    -- it is read as far as a
+    record Literal (a : State × Bytes) : Type 0 where
       path : Path s st (a .0)
       past : st .offset < a .0 .offset
       few : length (a .1) ≤ 4 * (a .0 .offset - st .offset)
 
-    literal-on : {st : State} {a b : State × Bytes} → Literal st a → Grows a b → Literal st b
+    literal-on : {a b : State × Bytes} → Literal a → Grows f from sp a b → Literal b
     literal-on p g =
         let r = path-reads (g .goes .path) in
-        record { path = path-path (p .path) (g .goes .path); past = omega (arith, p .past, r .ahead .forward); few = omega (arith, p .few, g .more, p .past, r .ahead .forward) }
+        record {
+          path = path-path (p .path) (g .goes .path);
+          past = omega (arith, p .past, r .ahead .forward);
+          few = omega (arith, p .few, g .more, p .past, r .ahead .forward);
+        }
 
-    literal-ends : {name : Bytes} {U : Type 0} {st : State} {a : State × Bytes} {t : Step} → from ≡ st .offset → Literal st a → StringEnd (a .0) (a .1) t
-        → Form s name U st t
-    literal-ends {a = a} q p (quote o) =
-        rw q (token (kind "STRING") (a .1) sp _ nothing (on (a .0 .offset + 1) (p .path) (walk-ahead (o .walk))) (omega (arith, p .past)) (λ _. inl (omega (arith, p .few, p .past))))
-    literal-ends {a = a} q p (fails n u) = error n [] _ _ (p .path) (omega arith) (λ q. absurd (u q))
+    literal-ends : {name : Bytes} {U : Type 0} {a : State × Bytes} {t : Step} → Literal a → StringEnd f from sp (a .0) (a .1) t → Form s name U st t
+    literal-ends {a = a} p (quote o) =
+        token (kind "STRING") (a .1) nothing ahead-here (on (a .0 .offset + 1) (p .path) (walk-ahead (o .walk))) (omega (arith, p .past))
+        (λ _. inl (omega (arith, p .few, p .past)))
+    literal-ends p (fails n u) = error n [] (p .path) ahead-here (omega arith) (λ q. absurd (u q))
 
     -- A string that was opened by the part up to e.
-    pub string-form : {name : Bytes} {U : Type 0} (st : State) {e : ℕ} → from ≡ st .offset → Onward s (st .offset) e
-        → Form s name U st (string-lit s f (advance st e) from sp)
+    pub string-form : {name : Bytes} {U : Type 0} {e : ℕ} → Onward s (st .offset) e
+        → Form s name U st (string-lit s f (advance st e) (st .offset) (cur-pos s st))
     unfolding string-lit
-    string-form {name} {U} st {e} q o =
-        loop-keeps (string-turn s f from sp) (Literal st) (Form s name U st) (λ a. error-here s (a .0) 1)
-        (λ a p. leads-map (λ b g. literal-on p g) (λ t x. literal-ends q p x) (string-turn s f from sp a) (string-leads a))
-        (λ a p. literal-ends q p (fails 1 (λ n. absurd (omega arith)))) (fuel s) (advance st e, [])
+    string-form {name} {U} {e} o =
+        loop-keeps (string-turn s f from sp) Literal (Form s name U st) (λ a. error-here s (a .0) 1)
+        (λ a p. leads-map (λ b g. literal-on p g) (λ t x. literal-ends p x) (string-turn s f from sp a) (string-leads f from sp a))
+        (λ a p. literal-ends p (fails 1 (λ n. absurd (omega arith)))) (fuel s) (advance st e, [])
         record { path = on e stay (walk-ahead (o .walk)); past = o .past; few = omega arith }

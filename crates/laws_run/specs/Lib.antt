@@ -7,3 +7,5 @@ pub mod Going
 -- `Written` is what a run has written, `Split` runs one after another.
 pub mod Written
 pub mod Split
+-- `Places` is where an item's positions stand.
+pub mod Places

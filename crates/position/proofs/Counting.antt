@@ -24,16 +24,22 @@ count-split w s i (suc n) m =
     rw (suc-add, add-suc, ← suc-add)
     (ap (λ (x : ℕ). weight-at w s i + x) (count-split w s (suc i) n m) ∙ sym (add-assoc (weight-at w s i) (count-chars w s (suc i) n) (count-chars w s (suc i + n) m)))
 
+-- from an offset to itself nothing is counted
+pub count-none : (w : Weight) (s : Bytes) (i : ℕ) → count-chars w s i (i - i) ≡ 0
+unfolding count-chars
+count-none w s i = let z : i - i ≡ 0 = omega arith in ap (count-chars w s i) z
+
+-- the count from one offset to another is cut at any offset between them
+pub count-through : (w : Weight) (s : Bytes) (i k j : ℕ) → i ≤ k → k ≤ j → count-chars w s i (j - i) ≡ count-chars w s i (k - i) + count-chars w s k (j - k)
+count-through w s i k j h l =
+    let n : i + (k - i) ≡ k = omega arith in
+    let m : j - i ≡ k - i + (j - k) = omega arith in
+    ap (count-chars w s i) m ∙ rw n at (count-split w s i (k - i) (j - k))
+
 -- the column of an offset goes on from the column of one before it
 pub column-on : (w : Weight) (s : Bytes) (st : State) (k i : ℕ) → st .bol ≤ k → k ≤ i → col-by w s st k + count-chars w s k (i - k) ≡ col-by w s st i
 unfolding col-by
-column-on w s st k i h l =
-    let n : st .bol + (k - st .bol) ≡ k = omega arith in
-    let m : k - st .bol + (i - k) ≡ i - st .bol = omega arith in
-    let e : count-chars w s (st .bol) (k - st .bol + (i - k)) ≡ count-chars w s (st .bol) (k - st .bol) + count-chars w s k (i - k) =
-    rw n at (count-split w s (st .bol) (k - st .bol) (i - k))
-    in
-    omega (arith, e, ap (count-chars w s (st .bol)) m)
+column-on w s st k i h l = omega (arith, count-through w s (st .bol) k i h l)
 
 -- ---- the count of characters
 
@@ -103,11 +109,7 @@ module _ (w : Weight) (s : Bytes) (i j : ℕ) where
 pub counted-small : (s : Bytes) (i j n k : ℕ) → k ≤ j → Counting one-each s i j n k → n ≤ k - i
 counted-small s i j n k h c =
     let l = c .left in
-    let o = c .on in
-    let a : i + (k - i) ≡ k = omega arith in
-    let b : k - i + (j - k) ≡ j - i = omega arith in
-    let e = rw a at (count-split one-each s i (k - i) (j - k)) in
-    omega (arith, e, ap (count-chars one-each s i) b, count-small s i (k - i))
+    omega (arith, count-through one-each s i k j (c .on) h, count-small s i (k - i))
 
 -- ---- the cache
 

@@ -2,3 +2,4 @@ pub mod Counting
 pub mod Lent
 pub mod Weights
 pub mod Ascii
+pub mod Skips

@@ -29,7 +29,7 @@ tails-count-nothing w s i (suc n) h =
     rw (h i (omega arith) (omega arith), weight-at, zero-add) (tails-count-nothing w s (suc i) n (λ k a b. h k (omega arith) (omega arith)))
 
 -- the bytes of a character count its weight
-char-counts : (w : Weight) (s : Bytes) (i c n : ℕ) → CharAt s i c n → count-chars w s i n ≡ w c
+pub char-counts : (w : Weight) (s : Bytes) (i c n : ℕ) → CharAt s i c n → count-chars w s i n ≡ w c
 unfolding count-chars weight-at
 char-counts w s i c n a = go n refl (encode-size c .0) (a .width)
   where

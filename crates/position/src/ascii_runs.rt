@@ -11,7 +11,7 @@ ghost use Prim.Native.Nat.{_+_, _≤_};
 ghost use lib.ListN.{length};
 ghost use Rattle.definition.specs.Position.{one-each};
 ghost use Rattle.position.specs.Columns.{Asked, column-at};
-ghost use Rattle.position.specs.AsciiRuns.{Ascii, Plain, Covers};
+ghost use Rattle.position.specs.AsciiRuns.{Ascii, AsciiTo, Plain, Covers};
 
 // Whether the 64 bytes from i on are all ASCII: the bits of all of them together, in a loop without a way out, which the
 // compiler turns into a few instructions.
@@ -28,8 +28,8 @@ fn ascii_block(text: &[u8], i: usize) -> bool
 
 // Where a run of ASCII from i on ends, as far as it is looked at: 64 bytes, or none where those are not all ASCII or the
 // text ends before.
-fn ascii_from(text: &[u8], i: usize) -> usize
-    ensures { λ r. ⌜ Ascii (now (text .entry)) i r ⌝ }
+pub fn ascii_from(text: &[u8], i: usize) -> usize
+    ensures { λ r. ⌜ AsciiTo (now (text .entry)) i r ⌝ }
 {
     if text.len() < 64 {
         return i;

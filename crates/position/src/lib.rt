@@ -1,7 +1,8 @@
 // Columns and positions. A column goes on from the last one that is known, so that a line of n bytes costs n bytes of
 // counting over all of its items. Proved: the count is the definition's, and the column of an offset is the
 // definition's from any cache that is right, and the cache afterwards, lent or handed back, is right again. The laws of
-// the count and of columns are stated for any weight per character; the functions count 1 for each.
+// the count and of columns are stated for any weight per character, and so are those of the characters after an offset
+// (proofs/Skips.antt); the functions count 1 for each.
 // Assumed: nothing but what each function's `requires` says.
 pub mod ascii_runs; // ascii_runs.rt: the functions
 pub mod columns; // columns.rt: the columns of a token's ends, without a count where the bytes before them are known to be ASCII
