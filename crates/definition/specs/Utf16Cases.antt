@@ -2,13 +2,13 @@
 -- its stops. proofs/Utf16Cases.antt computes that the definition gives them. Texts start at 1:0, with the class file of no ranges.
 use Prim.Native.Nat.{ℕ, _+_, _*_}
 use Prim.Native.String.{String}
-use mathlib.Core.Bool.{true, false}
+use mathlib.Core.Bool.{true}
 use mathlib.Core.List.{List, [], _∷_, _++_, map}
 use lib.Dec.{ltb}
 use lib.ListN.{length, take, drop, getD, replicate}
 use Rattle.definition.specs.Basics.{Bytes, if_then_else_}
 use Rattle.definition.specs.Tables.{cps}
-use Rattle.definition.specs.State.{started, start}
+use Rattle.definition.specs.State.{started}
 use Rattle.definition.specs.Item.{record-size}
 use Rattle.definition.specs.Items.{records-of}
 use Rattle.definition.specs.Utf16.{

@@ -1,9 +1,10 @@
 -- Where a run stands after its tokens. s is the text, f the class file; rs and ps are the buffers before, rs′ and ps′ those after.
-use Prim.Native.Nat.{ℕ, _≤_}
+use Prim.Native.Nat.{ℕ, _+_, _*_, _≤_, _<_}
 use mathlib.Core.Path.{_≡_}
 use mathlib.Core.List.{List, []}
 use lib.ListN.{length}
 use Rattle.definition.specs.Basics.{Bytes}
+use Rattle.definition.specs.Item.{record-size}
 use Rattle.laws_run.specs.Left.{left}
 use Rattle.laws_run.specs.Going.{run-from}
 use Rattle.reader.specs.declared.Cursor.{Cursor}
@@ -18,3 +19,5 @@ pub record WritesTokens (s f : Bytes) (start : Cursor) (begun filled : ℕ) (rs 
       → run-from s name f (writing (b .at) (b .count) (b .used) rs′ ps′) ≡ run-from s name f (writing start begun filled rs ps)
   pub ahead : (name : Bytes) → length name ≤ 4096 → StandsAhead s name f (b .at) (b .here) (b .ahead)
   pub less : left s (b .at .st) ≤ left s (start .st)
+  -- where no record fits, nothing is written and the run stands where it stood: it has only looked ahead
+  pub full : length rs < record-size * begun + record-size → (b .at ≡ start) × (b .count ≡ begun) × (b .used ≡ filled) × (rs′ ≡ rs) × (ps′ ≡ ps)

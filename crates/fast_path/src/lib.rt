@@ -3,8 +3,8 @@
 //
 // Proved: after the tokens what is still to come of the run is what was to come before them, whatever the file's name is (no
 // token that is written here has it in its payload: the contract asks with the empty name and promises for every one), and
-// what stands ahead there is said (`WritesTokens`). That as many tokens as possible are written is not promised: what is left, a
-// turn writes.
+// what stands ahead there is said (`WritesTokens`). Where no record fits nothing is written: it has only looked ahead, which is what the
+// second run asks it for (crate `utf16_turn`). That as many tokens as possible are written is not promised: what is left, a turn writes.
 // Assumed: nothing but what `write_tokens`'s `requires` says: the run was not refused and stands between two items, and the
 // tables of operator and of symbol characters are lent.
 pub mod puts; // puts.rt: a token written from its action

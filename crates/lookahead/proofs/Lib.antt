@@ -1,3 +1,4 @@
+pub mod ItemLaws
 pub mod LookaheadLaws
 pub mod TurnLaws
 pub mod WhiteLaws

@@ -2,7 +2,7 @@
 -- progress and of sound states.
 use Prim.Native.Nat.{_-_, _≤_, _<_}
 use native.Mathlib.Omega.{arith}
-use mathlib.Core.Path.{_≡_, refl, ap, _∙_}
+use mathlib.Core.Path.{_≡_, refl, sym, ap, _∙_}
 use mathlib.Core.Bool.{true}
 use mathlib.Core.List.{[]}
 use lib.ListN.{length}
@@ -10,9 +10,11 @@ use Rattle.definition.specs.Basics.{Bytes}
 use Rattle.definition.specs.ClassFile.{class-check}
 use Rattle.definition.specs.Select.{select}
 use Rattle.definition.specs.Token.{Token-turn, next-token}
+use Rattle.definition.specs.Utf16.{chosen-at}
 use Rattle.definition.specs.declared.Choice.{Choice}
 use Rattle.lemmas.proofs.Loops.{says}
 use Rattle.laws_run.proofs.Steps.{token-unroll}
+use Rattle.laws_run.proofs.Choosing.{chosen-here}
 use Rattle.reader.specs.Described.{Turns}
 use Rattle.reader.specs.Cursors.{moved, next-line}
 use Rattle.reader.specs.declared.Cursor.{Cursor}
@@ -29,6 +31,7 @@ use Rattle.rules.proofs.RuleLaws.{needs-place, some-chosen, turns-by-rule, rule
 use Rattle.lookahead.specs.White.{Between, AfterWhite}
 use Rattle.lookahead.proofs.TurnLaws.{Goes, turn-is, turn-acts, turn-goes}
 use Rattle.lookahead.specs.Lookahead.{Faces, SeesRule}
+use Rattle.lookahead.proofs.ItemLaws.{GivesItem, turn-gives}
 
 -- what is asked where a choice is acted on
 pub chosen-acts : {s name f : Bytes} {at : Cursor} {c : Choice} → Between s f at → c ≡ select s f (at .st .offset) → at .st .offset < length s → length name ≤ 4096
@@ -44,16 +47,21 @@ chosen-acts h q before named = record {
 
 -- ---- the loop
 
--- a reader stands between comments, and what it reads is what the first reads
+-- a reader stands between comments, and what it reads is what the first reads, given at the same place
 pub record Reaching (s f : Bytes) (first here : Cursor) : Type 0 where
   pub ready : Between s f here
   pub same : (name : Bytes) → length name ≤ 4096 → next-token s name f (here .st) ≡ next-token s name f (first .st)
+  pub given : (name : Bytes) → length name ≤ 4096 → chosen-at s name f (here .st) ≡ chosen-at s name f (first .st)
 
 pub reaching-starts : {s f : Bytes} {at : Cursor} → Between s f at → Reaching s f at at
-reaching-starts h = record { ready = h; same = λ name named. refl }
+reaching-starts h = record { ready = h; same = λ name named. refl; given = λ name named. refl }
 
 pub reaching-after : {s f : Bytes} {first from here : Cursor} → Reaching s f first from → AfterWhite s f from here → Reaching s f first here
-reaching-after k b = record { ready = b .ready; same = λ name named. b .same name ∙ k .same name named }
+reaching-after k b = record {
+  ready = b .ready;
+  same = λ name named. b .same name ∙ k .same name named;
+  given = λ name named. b .given name ∙ k .given name named;
+}
 
 module _ {s f : Bytes} {first here : Cursor} {c : Choice} (k : Reaching s f first here) (q : c ≡ select s f (here .st .offset))
     {r : Rule} (is : rule-of (c .place) ≡ r) where
@@ -75,15 +83,17 @@ module _ {s f : Bytes} {first here : Cursor} {c : Choice} (k : Reaching s f firs
         record {
           ready = record { standing = g .standing; between = g .between; accepted = k .ready .accepted };
           same = λ name named. goes name named .same ∙ k .same name named;
+          given = λ name named. goes name named .given ∙ k .given name named;
         },
         g .less,
       )
 
   -- what is neither white space nor a line end is what the reader sees
-  pub seen : SeesRule s f first here c r
-  seen = record {
+  pub seen : GivesItem r → SeesRule s f first here c r
+  seen z = record {
     faces = record { standing = k .ready .standing; between = k .ready .between; chosen = q; ruled = is };
     same = k .same;
+    given = λ name named. sym (chosen-here s name f (here .st) _ (turn-gives s name f (here .st) c q is z .is)) ∙ k .given name named;
   }
 
 module _ {s f : Bytes} {first here : Cursor} {c : Choice} (k : Reaching s f first here) (q : c ≡ select s f (here .st .offset)) where

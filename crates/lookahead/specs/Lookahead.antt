@@ -10,6 +10,7 @@ use Rattle.definition.specs.Select.{select}
 use Rattle.definition.specs.Comment.{comment}
 use Rattle.definition.specs.Item.{Step}
 use Rattle.definition.specs.Token.{next-token}
+use Rattle.definition.specs.Utf16.{chosen-at}
 use Rattle.definition.specs.declared.Choice.{Choice}
 use Rattle.definition.specs.declared.State.{State}
 use Rattle.select.specs.Standing.{Lent}
@@ -37,10 +38,11 @@ pub record Faces (s f : Bytes) (here : Cursor) (c : Choice) (rule : Rule) : Type
   pub chosen : c ≡ select s f (here .st .offset)
   pub ruled : rule-of (c .place) ≡ rule
 
--- such a choice, where the item read from there is the one read from `at`
+-- such a choice, where the item read from there is the one read from `at`, and is given there
 pub record SeesRule (s f : Bytes) (at here : Cursor) (c : Choice) (rule : Rule) : Type 0 where
   pub faces : Faces s f here c rule
   pub same : (name : Bytes) → length name ≤ 4096 → next-token s name f (here .st) ≡ next-token s name f (at .st)
+  pub given : (name : Bytes) → length name ≤ 4096 → here .st ≡ chosen-at s name f (at .st)
 
 -- r is such a choice
 abbrev pub Sees : Bytes → Bytes → Cursor → Lookahead → Type 0

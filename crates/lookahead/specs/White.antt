@@ -5,6 +5,7 @@ use lib.ListN.{length}
 use Rattle.definition.specs.Basics.{Bytes}
 use Rattle.definition.specs.ClassFile.{class-check}
 use Rattle.definition.specs.Token.{token-turn, next-token}
+use Rattle.definition.specs.Utf16.{chosen-at}
 use Rattle.definition.specs.declared.State.{State}
 use Rattle.reader.specs.Described.{Turns}
 use Rattle.reader.specs.Standing.{Standing}
@@ -24,8 +25,9 @@ abbrev pub Passes : Bytes → Bytes → State → Passed → Type 0
 Passes s f st (On p) = (name : Bytes) → Turns s name f (token-turn s name f st) (Again p)
 Passes s f st Nothing = Unit {0}
 
--- a reader stands at r as one at `at` does, reads the same item from there, and has no more of the text ahead of it
+-- a reader stands at r as one at `at` does, reads the same item from there, given at the same place, and has no more of the text ahead of it
 pub record AfterWhite (s f : Bytes) (at r : Cursor) : Type 0 where
   pub ready : Between s f r
   pub same : (name : Bytes) → next-token s name f (r .st) ≡ next-token s name f (at .st)
+  pub given : (name : Bytes) → chosen-at s name f (r .st) ≡ chosen-at s name f (at .st)
   pub less : length s - r .st .offset ≤ length s - at .st .offset

@@ -1,8 +1,8 @@
 // What stands ahead of a reader: the choice after white space and line ends, with its rule, and the item that it leads to.
 //
-// Proved: from where `look` stands the definition's `next-token` gives the same item, the choice is the definition's
-// `select` there, and the rule is its place's; the type leaves no room for white space and line ends. What the next item is
-// is said in specs/Lookahead.antt (`ahead-step`).
+// Proved: from where `look` stands the definition's `next-token` gives the same item, and gives it there (`chosen-at`); the
+// choice is the definition's `select` there, and the rule is its place's; the type leaves no room for white space and line ends.
+// What the next item is is said in specs/Lookahead.antt (`ahead-step`).
 // Assumed: nothing but what `look`'s `requires` says: a reader stands in a sound state of a legal text, between comments, and
 // the class file and the tables of operator and of symbol characters are lent.
 pub mod white_space; // white_space.rt: white space and line ends of ASCII, passed before a choice

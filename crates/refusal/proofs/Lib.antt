@@ -1,1 +1,2 @@
 pub mod Ladder
+pub mod Utf16Ladder

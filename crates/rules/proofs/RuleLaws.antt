@@ -54,7 +54,7 @@ module _ (s name f : Bytes) (st : State) where
   rules-are e w = refl
 
   -- what is done with a choice
-  act-is : (c : Choice) → c .place < 51 → act s name f st c ≡ does s name f (rule-of (c .place)) st (c .place) (c .end) (c .word)
+  pub act-is : (c : Choice) → c .place < 51 → act s name f st c ≡ does s name f (rule-of (c .place)) st (c .place) (c .end) (c .word)
   unfolding act chosen-rule rule-list
   act-is c h = go (c .place) h
     where

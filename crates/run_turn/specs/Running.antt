@@ -9,6 +9,7 @@ use Rattle.definition.specs.ClassFile.{class-check}
 use Rattle.definition.specs.Item.{record-size}
 use Rattle.definition.specs.Token.{step}
 use Rattle.definition.specs.Run.{Outcome, Writing, run-items}
+use Rattle.definition.specs.Utf16.{given-at}
 use Rattle.definition.specs.declared.State.{State}
 use Rattle.definition.specs.declared.RunAnswer.{RunAnswer}
 use Rattle.laws_run.specs.Left.{left}
@@ -52,10 +53,11 @@ pub record Between (s name f : Bytes) (at : Cursor) (count used : ℕ) (rs : Lis
   pub kept : WithinBounds s (writing at count used rs ps)
   pub cached : Known-at s (at .st) (at .known)
 
--- what stands ahead of the reader at `at` is `ahead`, after white space at `here`, unless the reading has ended
+-- what stands ahead of the reader at `at` is `ahead`, after white space at `here`, where it is given, unless the reading has ended
 pub record StandsAhead (s name f : Bytes) (at here : Cursor) (ahead : NextItem) : Type 0 where
   pub readable : (at .st .mode ≡ 2 → ⊥) → Readable s name f here ahead
   pub is : (at .st .mode ≡ 2 → ⊥) → ahead-step s name f (here .st) ahead ≡ step s name f (at .st)
+  pub given : (at .st .mode ≡ 2 → ⊥) → here .st ≡ given-at s name f (at .st)
 
 -- what is still to come gives what the whole run gives that began in the state st with the buffers rs₀ and ps₀
 pub record Going (s name f : Bytes) (st : State) (rs₀ : List ℕ) (ps₀ : Bytes) (at : Cursor) (count used : ℕ) (rs : List ℕ) (ps : Bytes) : Type 0 where

@@ -1,10 +1,13 @@
-// `start`, and whether a saved state is sound. Proved: both are the definition's, for every number. Assumed: nothing but what each
-// function's `requires` says.
+// `start`, and whether a saved state is sound; of both runs. Proved: all are the definition's, for every number. Assumed: nothing but
+// what each function's `requires` says.
 ghost use mathlib.Core.Path.{_≡_};
 ghost use Rattle.definition.specs.State.{at-character, offsets-sound, counts-sound, depth-sound, comment-sound, sound, start, started};
+ghost use Rattle.definition.specs.Utf16.{by-second, utf16-start};
 use definition::Pos;
 use definition::StartAnswer;
 use definition::State;
+use definition::Utf16StartAnswer;
+use definition::Utf16State;
 
 // The state at the beginning of a text, at a line and a column.
 fn started(line: u32, column: u32) -> State
@@ -44,6 +47,44 @@ pub fn start(line: u32, column: u32) -> StartAnswer
     StartAnswer {
         refusal: 0,
         state: state,
+    }
+}
+
+// The second run's start: the given column is in both columns of the line start.
+pub fn utf16_start(line: u32, column: u32) -> Utf16StartAnswer
+    ensures { λ r. ⌜ r ≡ utf16-start line column ⌝ }
+{
+    let begun = start(line, column);
+    let first = begun.state;
+    let state = Utf16State {
+        first: first,
+        column: first.column,
+        comment: 0,
+    };
+    Utf16StartAnswer {
+        refusal: begun.refusal,
+        state: state,
+    }
+}
+
+// The nine numbers of the second run's saved state, with both second columns in the places of the first.
+pub fn by_second(g: Utf16State) -> State
+    ensures { λ r. ⌜ r ≡ by-second g ⌝ }
+{
+    let first = g.first;
+    let comment = Pos {
+        line: first.comment.line,
+        col: g.comment,
+    };
+    State {
+        offset: first.offset,
+        line: first.line,
+        bol: first.bol,
+        column: g.column,
+        comments: first.comments,
+        mode: first.mode,
+        depth: first.depth,
+        comment: comment,
     }
 }
 

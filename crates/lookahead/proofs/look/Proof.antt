@@ -85,7 +85,7 @@ returns : tie.Need-returns Inv-loop μ-loop
 returns c =
     let d = c .before .before .before in
     let k = reaching-after (d .before .before .before .before .before .loop .inv) (d .before .before .before .before .after-white .ensures) in
-    seen k (d .before .select .ensures) (sym (d .rule-of .ensures) ∙ c .before .rule .given .1)
+    seen k (d .before .select .ensures) (sym (d .rule-of .ensures) ∙ c .before .rule .given .1) tt
 
 enum-known-rule-2 : tie.Need-enum-known-rule-2 Inv-loop μ-loop
 enum-known-rule-2 c = search needs
@@ -94,7 +94,7 @@ returns-2 : tie.Need-returns-2 Inv-loop μ-loop
 returns-2 c =
     let d = c .before .before .before in
     let k = reaching-after (d .before .before .before .before .before .loop .inv) (d .before .before .before .before .after-white .ensures) in
-    seen k (d .before .select .ensures) (sym (d .rule-of .ensures) ∙ c .before .rule2 .given .1)
+    seen k (d .before .select .ensures) (sym (d .rule-of .ensures) ∙ c .before .rule2 .given .1) tt
 
 pub look-spec : {M : Type 1} → statement M
 look-spec =

@@ -1,0 +1,4 @@
+pub mod PlaceLaws
+pub mod RecordLaws
+pub mod PlainLaws
+pub mod Seconds
