@@ -6,6 +6,7 @@ From the first crate that had to be proved on, standard error says how many are:
 terminal, else in a line now and then. Standard output stays empty. Where a proof fails, standard error has what `rt` said, and the
 exit status is 3; where there is no `rt` it is 2."""
 import fcntl
+import getopt
 import os
 import pathlib
 import re
@@ -61,6 +62,22 @@ def run_command(main):
         say("%s: %s" % (command(), error))
         status = 3
     sys.exit(status)
+
+
+def parsed(words, usage, options, most=None):
+    """The options among a command's words, with what they are given, and its other words, of which there is one and are no more than
+    `most`. For any other words the failure is the usage. Where help is asked for, that is written, and the command ends."""
+    try:
+        pairs, others = getopt.gnu_getopt(words, "h", ["help", *options])
+    except getopt.GetoptError as error:
+        raise Failure("%s: %s\n\n%s" % (command(), error, usage), 2)
+    given = dict(pairs)
+    if "-h" in given or "--help" in given:
+        write(sys.stdout, usage.encode() + b"\n")
+        sys.exit(0)
+    if not others or (most and most < len(others)):
+        raise Failure(usage, 2)
+    return given, others
 
 
 class Progress:

@@ -4,7 +4,8 @@ document.cases is for people; its head says what its lines mean. short.jsonl and
 object to a line: `text` in hexadecimal, `classes` (the class file classes-NAME.bin), `refusal` and `offset`, and `items`, each a pair of
 its eighteen numbers (word 6 being 0) and its payload in hexadecimal. runs.jsonl has runs from arbitrary states with arbitrary buffers:
 `text`, `name` and `classes` in hexadecimal, `state`, `records` and `payload` (how much is lent), `refusal`, `offset`, `stop`, `count`,
-`after` (the state handed back), `items` with word 6.
+`after` (the state handed back), `items` with word 6. utf16-runs.jsonl has such runs of the second run (document 02, K2), with states of
+eleven numbers.
 
 Nothing here comes from a run of the lexer: the state after an item is reckoned from the position where the item ends, and the bytes that
 it is read from are reckoned from that and from the state before it; a case says them besides, and is Wrong where it says others."""
@@ -14,7 +15,7 @@ import re
 
 DATA = pathlib.Path(__file__).resolve().parent.parent / "crates" / "cases" / "data"
 RECORD = 18
-STATE = 9
+STATE, UTF16_STATE = 9, 11
 ENDED = 2
 EOF, ERROR, STRING, BLOB, USE_LANG_BLOB = 165, 173, 148, 149, 150
 LAST_KIND = 173
@@ -50,10 +51,11 @@ class Item:
 
 
 class Case:
-    """A case: what its calls are given, and what they should answer."""
+    """A case: whether its calls are the second run's, what they are given, and what they should answer."""
 
     def __init__(self, name):
         self.name = name
+        self.utf16 = False
         self.text, self.file_name, self.classes = b"", b"stdin", NO_RANGES
         self.start = None
         self.given = None
@@ -66,10 +68,15 @@ class Case:
     def wrong(self, why):
         return Wrong("case '%s': %s" % (self.name, why))
 
+    def state_size(self):
+        return UTF16_STATE if self.utf16 else STATE
+
     def start_state(self):
-        """What `start` should give: nine zeros where it refuses."""
+        """What its start should give: zeros where it refuses, else the column, in both columns of the line start where there are two."""
         line, column, refusal = self.start or (1, 0, 0)
-        return [0] * STATE if refusal else [0, line, 0, column, 0, 0, 0, 0, 0]
+        if refusal:
+            return [0] * self.state_size()
+        return [0, line, 0, column, 0, 0, 0, 0, 0] + ([column, 0] if self.utf16 else [])
 
     def first_state(self):
         return self.given or self.start_state()
@@ -104,14 +111,19 @@ def numbers_of(word):
     return [int(n) for n in word.partition("#")[0].split()]
 
 
-HOW_MANY = {"start": 3, "from": STATE, "buffers": 2, "class-check": 1, "refused": 2, "stop": 1, "state": STATE}
+STATES = (STATE, UTF16_STATE)
+HOW_MANY = {
+    "utf16": (0,), "start": (3,), "from": STATES, "buffers": (2,), "class-check": (1,), "refused": (2,), "stop": (1,), "state": STATES
+}
 
 
 def take_numbers(case, word, numbers):
     """A line of numbers; False where its word is none of these, or has more or fewer."""
-    if len(numbers) != HOW_MANY.get(word, len(numbers)):
+    if len(numbers) not in HOW_MANY.get(word, ()):
         return False
-    if word == "start":
+    if word == "utf16":
+        case.utf16 = True
+    elif word == "start":
         case.start = tuple(numbers)
     elif word == "from":
         case.given = numbers
@@ -123,10 +135,8 @@ def take_numbers(case, word, numbers):
         case.refusal, case.offset = numbers
     elif word == "stop":
         case.stop, = numbers
-    elif word == "state":
-        case.after = numbers
     else:
-        return False
+        case.after = numbers
     return True
 
 
@@ -228,12 +238,13 @@ def read_vectors(path):
     return cases
 
 
-def read_runs(path):
-    """The cases of a file of runs from arbitrary states with arbitrary buffers."""
+def read_runs(path, utf16):
+    """The cases of a file of runs from arbitrary states with arbitrary buffers, of the second run or of the first."""
     cases = []
     for number, line in enumerate(path.read_text().splitlines(), 1):
         vector, case = json.loads(line), Case("%s %d" % (path.stem, number))
         case.text, case.file_name, case.classes = (bytes.fromhex(vector[part]) for part in ("text", "name", "classes"))
+        case.utf16 = utf16
         case.given, case.lent, case.after = vector["state"], (vector["records"], vector["payload"]), vector["after"]
         case.refusal, case.offset, case.stop = vector["refusal"], vector["offset"], vector["stop"]
         case.items = [Item(words, bytes.fromhex(payload)) for words, payload in vector["items"]]
@@ -255,20 +266,30 @@ def in_class(classes, k, code):
 
 
 class Walk:
-    """Goes through a text as positions count it, from a state on: the offset, and where which line began at which column."""
+    """Goes through a text as positions count it, from a state on: the offset, and where which line began at which column, in characters
+    and for the second run in UTF-16 units too."""
 
     def __init__(self, case, state):
-        self.text, self.classes = case.text, case.classes
+        self.text, self.classes, self.utf16 = case.text, case.classes, case.utf16
         self.at, self.line, self.bol, self.column = state[:4]
+        self.units = state[STATE] if case.utf16 else 0
 
     def width(self):
         """The bytes of the character here."""
         first = self.text[self.at]
         return 1 if first < 0x80 else 2 if first < 0xE0 else 3 if first < 0xF0 else 4
 
+    def line_before(self):
+        return self.text[self.bol : self.at].decode()
+
+    def position_in_characters(self):
+        return self.line, self.column + len(self.line_before())
+
     def position(self):
-        characters = sum(1 for byte in self.text[self.bol : self.at] if not 0x80 <= byte <= 0xBF)
-        return self.line, self.column + characters
+        """The position here, as a record of the case says it."""
+        if not self.utf16:
+            return self.position_in_characters()
+        return self.line - 1, self.units + len(self.line_before().encode("utf-16-le")) // 2
 
     def is_white(self):
         if len(self.text) <= self.at:
@@ -285,7 +306,7 @@ class Walk:
             self.at += self.width()
 
     def new_line(self):
-        self.line, self.bol, self.column = self.line + 1, self.at, 0
+        self.line, self.bol, self.column, self.units = self.line + 1, self.at, 0, 0
 
     def pass_gap(self):
         """Passes what makes no item: white, line ends and `// IN F*:`. Yields the place of each."""
@@ -325,16 +346,18 @@ def depth_after(text, item, depth):
     return depth + opened - 1
 
 
-def state_after(case, item, walk, before):
-    """The state after an item that the walk has passed, from the one before it."""
-    words, mode, depth, start = item.words, 0, 0, [0, 0]
+def state_after(case, item, walk, before, opened):
+    """The state after an item that the walk has passed, from the one before it; `opened` is where the comment began that it is a piece of,
+    in characters."""
+    words, mode, depth, start, start_units = item.words, 0, 0, (0, 0), 0
     if words[0] == COMMENT and (before[5] == 1 or case.text.startswith(b"(*", item.begin)):
         depth = depth_after(case.text, item, before[6])
         if depth:
-            mode, start = 1, words[2:4]
+            mode, start, start_units = 1, opened, words[3]
     elif item.is_last():
         mode = ENDED
-    return [walk.at, walk.line, walk.bol, walk.column, words[8], mode, depth] + start
+    seconds = [walk.units, start_units] if case.utf16 else []
+    return [walk.at, walk.line, walk.bol, walk.column, words[8], mode, depth, *start] + seconds
 
 
 def reckon(case):
@@ -346,6 +369,7 @@ def reckon(case):
         if state[5] == 0:
             case.passed += walk.pass_gap()
         item.begin, item.begun = walk.at, walk.position()
+        opened = state[7:STATE] if state[5] == 1 else walk.position_in_characters()
         is_string = case.text.startswith(b'"', item.begin) and (words[1] == STRING or item.is_error(1, 7))
         has_lines = is_string or words[0] == COMMENT or words[1] in (BLOB, USE_LANG_BLOB) or item.is_error(2)
         while walk.position() != tuple(words[4:6]):
@@ -357,7 +381,7 @@ def reckon(case):
         if item.span() != span:
             numbers = (number, *span, *item.span())
             raise case.wrong("item %d is read from byte %d up to byte %d, and not from byte %d up to byte %d" % numbers)
-        state = item.after = state_after(case, item, walk, state)
+        state = item.after = state_after(case, item, walk, state, opened)
     if case.after not in (None, state):
         raise case.wrong("the state after its last item is %s" % state)
 
@@ -366,6 +390,9 @@ def check(case):
     """Raises Wrong where a case contradicts itself, or has what no case can have."""
     if case.refusal and case.items:
         raise case.wrong("it is refused and has items")
+    for state in (case.given, case.after):
+        if state and len(state) != case.state_size():
+            raise case.wrong("a state has %d numbers, and not %d" % (len(state), case.state_size()))
     for number, item in enumerate(case.items, 1):
         words = item.words
         if len(words) != RECORD or words[0] not in (TOKEN, COMMENT):
@@ -383,7 +410,7 @@ def all_cases():
     cases = read_cases(DATA / "document.cases")
     for name in ("short.jsonl", "long.jsonl"):
         cases += read_vectors(DATA / name)
-    cases += read_runs(DATA / "runs.jsonl")
+    cases += read_runs(DATA / "runs.jsonl", False) + read_runs(DATA / "utf16-runs.jsonl", True)
     names = set()
     for case in cases:
         if case.name in names:

@@ -24,12 +24,15 @@ RECORD = 18
 LENT_NUMBERS = 65536 * RECORD
 LENT_BYTES = 1052672
 
-FRAME = struct.Struct("<16I")
-RUN_CALL = 3
+FRAME = struct.Struct("<18I")
+STATE = 11
 CASE = 1
 LARGEST_NUMBER = 4294967295
-# What `start` answers for line 1 and column 0.
-BEGINNING = (0, 1, 0, 0, 0, 0, 0, 0, 0)
+
+# A run: the number by which a frame asks for it, the word of the line that answers, and what its start gives for line 1 and column 0.
+Run = collections.namedtuple("Run", "call word beginning")
+CHARACTERS = Run(3, "run", (0, 1, 0, 0, 0, 0, 0, 0, 0))
+UTF16 = Run(5, "utf16-run", (0, 1, 0, 0, 0, 0, 0, 0, 0, 0, 0))
 
 REFUSALS = {
     3: "the class file has fewer than 48 or more than 65,536 bytes",
@@ -39,6 +42,7 @@ REFUSALS = {
     7: "the name has more than 4,096 bytes",
     8: "ill-formed UTF-8",
     9: "the saved state is unsound",
+    10: "the saved state has a line 0",
 }
 ILL_FORMED = 8
 ERRORS = {
@@ -104,9 +108,9 @@ def numbers(line, word, count):
     return values
 
 
-def answer_of(line):
+def answer_of(line, run):
     """What a run answered, by its line."""
-    case, refusal, offset, stop, count, *state = numbers(line, "run", 14)
+    case, refusal, offset, stop, count, *state = numbers(line, run.word, 5 + len(run.beginning))
     if case != CASE or refusal not in (0, *REFUSALS) or stop not in (0, 1, 2):
         raise Broken("%.80r is no answer of a run" % line)
     if stop != 0 and count == 0:
@@ -188,10 +192,10 @@ def item_of(words, payload, kinds):
 
 
 class Lexer:
-    """The program `cases`, asked for runs with one class file."""
+    """The program `cases`, asked for runs of one sort with one class file."""
 
-    def __init__(self, classes):
-        self.classes = classes
+    def __init__(self, classes, run=CHARACTERS):
+        self.classes, self.sort = classes, run
         self.kinds = dict(enumerate(kind_names(), 1))
 
     @functools.cached_property
@@ -201,9 +205,10 @@ class Lexer:
 
     def run(self, name, text, state):
         """What a run answers, and its items."""
-        frame = FRAME.pack(RUN_CALL, CASE, *state, LENT_NUMBERS, LENT_BYTES, len(name), len(text), len(self.classes))
+        eleven = (*state, *[0] * (STATE - len(state)))
+        frame = FRAME.pack(self.sort.call, CASE, *eleven, LENT_NUMBERS, LENT_BYTES, len(name), len(text), len(self.classes))
         first, *records, last = printed(self.program, frame + name + text + self.classes)
-        answer = answer_of(first)
+        answer = answer_of(first, self.sort)
         if len(records) != answer.count:
             raise Broken("it counts %d items and prints %d records" % (answer.count, len(records)))
         payload = payload_of(last)
@@ -212,7 +217,7 @@ class Lexer:
     def runs(self, path, text):
         """The items of each run over the text of a file, until one comes to the text's end."""
         name = os.fsencode(path)[:NAME_BYTES]
-        state, stop = BEGINNING, None
+        state, stop = self.sort.beginning, None
         while stop != 0:
             try:
                 answer, items = self.run(name, text, state)

@@ -1,12 +1,12 @@
 // Runs the lexer over standard input as many times as the first argument says, once where there is none, and writes how
 // many items one whole run gives, or REFUSED and the number; after it a number of the records and a byte of the payload, which
 // ones the count decides. Any of them may be read so: the compiler leaves out the writing of what nobody reads, and a lexer
-// that writes no records would be timed. With a second argument, whatever it is, it only checks the
-// text's UTF-8 so many times, and writes how many of its first bytes are legal: bench/measure sets that time
+// that writes no records would be timed. With 16 as the second argument the runs are those whose positions count UTF-16 units. With 8
+// it only checks the text's UTF-8 so many times, and writes how many of its first bytes are legal: bench/measure sets that time
 // beside the lexer's. The classes are those of the file classes.bin in the working directory; a missing one counts as empty.
-// Proved: it ends and breaks nothing, and what it runs is `lexer::run`.
+// Proved: it ends and breaks nothing, and what it runs is `lexer::run` or `lexer::utf16::run` (crate `either_run`).
 // Assumed: what `libc` and `os` declare of reading and writing.
-use definition::State;
+use either_run::Saved;
 use inputs::class_buffer;
 use inputs::least;
 use inputs::payload_buffer;
@@ -15,6 +15,11 @@ use inputs::record_buffer;
 use inputs::text_buffer;
 use libc::STDIN_FILENO;
 use libc::STDOUT_FILENO;
+
+// The second argument: the UTF-8 check, or the second run.
+const CHECK: usize = 8;
+
+const UTF16: usize = 16;
 
 // What a whole run gave: the items, or the refusal's number.
 struct Whole {
@@ -27,14 +32,14 @@ struct Whole {
 fn whole_run(
     text: &[u8],
     classes: &[u8],
-    start: State,
+    start: Saved,
     records: &mut [u32],
     payload: &mut [u8],
 ) -> Whole {
     let mut state = start;
     let mut items: u64 = 0;
     for _ in 0..1048577usize {
-        let answer = lexer::run(text, b"stdin", classes, state, records, payload);
+        let answer = either_run::run(text, b"stdin", classes, state, records, payload);
         items = std::num::wrapping_add_u64(items, answer.count as u64);
         if answer.stop == 0 {
             return Whole {
@@ -55,16 +60,16 @@ fn runs(
     rounds: usize,
     text: &[u8],
     classes: &[u8],
+    start: Saved,
     records: &mut [u32],
     payload: &mut [u8],
 ) -> Whole {
-    let started = lexer::start(1, 0);
     let mut last = Whole {
         refusal: 0,
         items: 0,
     };
     for _ in 0..rounds {
-        last = whole_run(text, classes, started.state, records, payload);
+        last = whole_run(text, classes, start, records, payload);
     }
     last
 }
@@ -97,14 +102,26 @@ fn number(word: &[u8]) -> usize {
     n
 }
 
-// How many rounds the first argument asks for.
-fn rounds() -> usize {
+// The number that the argument k says, or `without` where there is none.
+fn argument(k: usize, without: usize) -> usize {
     let mut word = [0u8; 20];
-    if os::arg_count() < 2 {
-        return 1;
+    if os::arg_count() <= k {
+        return without;
     }
-    let length = os::arg(1, &mut word);
+    let length = os::arg(k, &mut word);
     number(&word[..length])
+}
+
+// The start of the run that the second argument asks for.
+fn start(mode: usize) -> Saved {
+    if mode == UTF16 {
+        let begun = lexer::utf16::start(1, 0);
+        let state = begun.state;
+        return Saved::Utf16(state);
+    }
+    let begun = lexer::start(1, 0);
+    let state = begun.state;
+    Saved::Characters(state)
 }
 
 // A number, and a byte, as one of 64 bits: in a function of their own casts of what an index reads ask for no proof.
@@ -129,14 +146,17 @@ fn main() {
     let mut classes = class_buffer();
     let length = io::read_full(STDIN_FILENO, &mut text);
     let size = read_classes(&mut classes);
-    if 2 < os::arg_count() {
-        say(checks(rounds(), &text[..length]) as u64);
+    let rounds = argument(1, 1);
+    let mode = argument(2, 0);
+    if mode == CHECK {
+        say(checks(rounds, &text[..length]) as u64);
         return;
     }
     let last = runs(
-        rounds(),
+        rounds,
         &text[..length],
         &classes[..size],
+        start(mode),
         &mut records,
         &mut payload,
     );

@@ -1,21 +1,23 @@
-// Makes the calls that the frames of standard input ask for, `lexer::start`, `lexer::class_check` or `lexer::run`, and
-// prints what each answers and leaves in its buffers. scripts/pack-cases makes the frames of the cases, and what is to be
-// printed; scripts/items and scripts/lint ask for the runs over a file.
+// Makes the calls that the frames of standard input ask for, `lexer::start`, `lexer::class_check`, `lexer::run`, and the second run's
+// `lexer::utf16::start` and `lexer::utf16::run`, and prints what each answers and leaves in its buffers. scripts/pack-cases makes the
+// frames of the cases, and what is to be printed; scripts/items and scripts/lint ask for the runs over a file.
 //
-// A frame is sixteen numbers of 32 bits, the least byte first, and the bytes that they announce:
+// A frame is eighteen numbers of 32 bits, the least byte first, and the bytes that they announce:
 //
-//   0         the call: 1 start, 2 class check, 3 run
+//   0         the call: 1 start, 2 class check, 3 run, 4 the second run's start, 5 the second run
 //   1         the case's number, which is printed with the answer
-//   2 to 10   the state's nine numbers (start takes the line and the line-start column)
-//   11, 12    how many record numbers and payload bytes are lent
-//   13 to 15  how many bytes of the name, of the text and of the class file follow, in this order; 4294967295 as the first says that
+//   2 to 12   the state: document 01's nine numbers, and then the second run's two (either start takes the line and the line-start column)
+//   13, 14    how many record numbers and payload bytes are lent
+//   15 to 17  how many bytes of the name, of the text and of the class file follow, in this order; 4294967295 as the first says that
 //             all three are those of the frame before
 //
-// The lines of a frame, every number in decimal:
+// The lines of a frame, every number in decimal; a STATE is nine numbers, and the second run's is eleven:
 //
 //   start CASE REFUSAL STATE
 //   classes CASE ANSWER
 //   run CASE REFUSAL OFFSET STOP COUNT STATE
+//   utf16-start CASE REFUSAL STATE
+//   utf16-run CASE REFUSAL OFFSET STOP COUNT STATE
 //   record NUMBERS        each eighteen of the record numbers lent, up to the last that isn't 4294967295
 //   payload BYTES         the payload bytes lent, in hexadecimal, up to the last that isn't 255
 //
@@ -29,6 +31,8 @@ mod print; // print.rt: the lines
 
 use definition::Pos;
 use definition::State;
+use definition::Utf16State;
+use either_run::Saved;
 use libc::STDIN_FILENO;
 use print::print_numbers;
 use print::print_payload;
@@ -43,6 +47,10 @@ const START: u32 = 1;
 const CLASS_CHECK: u32 = 2;
 
 const RUN: u32 = 3;
+
+const UTF16_START: u32 = 4;
+
+const UTF16_RUN: u32 = 5;
 
 // The length that says that name, text and class file are those of the frame before.
 const KEPT: u32 = 4294967295;
@@ -89,17 +97,17 @@ fn wide(n: u32) -> usize
 }
 
 // The numbers of a frame.
-fn numbers_of(head: &[u8; 64]) -> [u32; 16] {
-    let mut numbers = [0u32; 16];
-    for k in 0..16usize {
+fn numbers_of(head: &[u8; 72]) -> [u32; 18] {
+    let mut numbers = [0u32; 18];
+    for k in 0..18usize {
         numbers[k] = class_file::check::number_at(head, 4 * k);
     }
     numbers
 }
 
-// The state that a frame's numbers say.
-fn state_of(n: [u32; 16]) -> State {
-    State {
+// The state that a frame's numbers say, of the run that it asks for.
+fn state_of(n: [u32; 18]) -> Saved {
+    let first = State {
         offset: n[2],
         line: n[3],
         bol: n[4],
@@ -111,23 +119,51 @@ fn state_of(n: [u32; 16]) -> State {
             line: n[9],
             col: n[10],
         },
+    };
+    if n[0] == RUN {
+        return Saved::Characters(first);
     }
+    Saved::Utf16(Utf16State {
+        first: first,
+        column: n[11],
+        comment: n[12],
+    })
 }
 
-// A state's nine numbers, with which a line ends.
-fn print_state(s: State) {
+// Document 01's nine numbers of a state.
+fn print_first(s: State) {
     let p = s.comment;
     print_numbers(&[s.offset, s.line, s.bol, s.column]);
     print_numbers(&[s.comments, s.mode, s.depth, p.line, p.col]);
+}
+
+// A state's numbers, with which a line ends.
+fn print_state(state: Saved) {
+    match state {
+        Saved::Characters(first) => print_first(first),
+        Saved::Utf16(both) => {
+            print_first(both.first);
+            print_numbers(&[both.column, both.comment]);
+        }
+    }
     say(b"\n");
 }
 
 // Start takes the line and the line-start column of the state.
-fn answer_start(n: [u32; 16]) {
+fn answer_start(n: [u32; 18]) {
     let answer = lexer::start(n[3], n[5]);
+    let state = answer.state;
     say(b"start");
     print_numbers(&[n[1], answer.refusal]);
-    print_state(answer.state);
+    print_state(Saved::Characters(state));
+}
+
+fn answer_utf16_start(n: [u32; 18]) {
+    let answer = lexer::utf16::start(n[3], n[5]);
+    let state = answer.state;
+    say(b"utf16-start");
+    print_numbers(&[n[1], answer.refusal]);
+    print_state(Saved::Utf16(state));
 }
 
 fn answer_class_check(case: u32, classes: &[u8]) {
@@ -136,9 +172,17 @@ fn answer_class_check(case: u32, classes: &[u8]) {
     say(b"\n");
 }
 
-// A run that is lent these buffers.
+// The word of a run's line.
+fn say_run(state: Saved) {
+    match state {
+        Saved::Characters(_) => say(b"run"),
+        Saved::Utf16(_) => say(b"utf16-run"),
+    }
+}
+
+// A run of either kind that is lent these buffers.
 fn answer_run(
-    n: [u32; 16],
+    n: [u32; 18],
     name: &[u8],
     text: &[u8],
     classes: &[u8],
@@ -147,33 +191,35 @@ fn answer_run(
 ) {
     fill_records(records);
     fill_payload(payload);
-    let answer = lexer::run(text, name, classes, state_of(n), records, payload);
-    say(b"run");
+    let answer = either_run::run(text, name, classes, state_of(n), records, payload);
+    let state = answer.state;
+    say_run(state);
     print_numbers(&[n[1], answer.refusal, answer.offset]);
     print_numbers(&[answer.stop, answer.count]);
-    print_state(answer.state);
+    print_state(state);
     print_records(records);
     print_payload(payload);
 }
 
 // Makes the call that a frame with these numbers and parts asks for.
-fn call(n: [u32; 16], parts: Parts, bytes: &[u8], records: &mut [u32], payload: &mut [u8]) -> Parts
+fn call(n: [u32; 18], parts: Parts, bytes: &[u8], records: &mut [u32], payload: &mut [u8]) -> Parts
     requires { ⌜ Within parts (now bytes) ⌝ }
     ensures { λ r. ⌜ Within r (now (bytes .entry)) ⌝ }
 {
     let name = parts.name;
     let text = parts.text;
     let end = parts.classes;
-    let numbers = wide(n[11]);
-    let room = wide(n[12]);
+    let numbers = wide(n[13]);
+    let room = wide(n[14]);
     if records.len() < numbers || payload.len() < room {
         return last(b"a frame is too large\n");
     }
     let asked = n[0];
     match asked {
         START => answer_start(n),
+        UTF16_START => answer_utf16_start(n),
         CLASS_CHECK => answer_class_check(n[1], &bytes[text..end]),
-        RUN => answer_run(
+        RUN | UTF16_RUN => answer_run(
             n,
             &bytes[..name],
             &bytes[name..text],
@@ -191,21 +237,21 @@ fn answer_next(before: Parts, bytes: &mut [u8], records: &mut [u32], payload: &m
     requires { ⌜ Within before (now bytes) ⌝ }
     ensures { λ r. ⌜ Within r (now (bytes .exit)) ⌝ }
 {
-    let mut head = [0u8; 64];
+    let mut head = [0u8; 72];
     let got = io::read_full(STDIN_FILENO, &mut head);
     if got == 0 {
         return last(b"");
     }
-    if got < 64 {
+    if got < 72 {
         return last(b"a frame is cut short\n");
     }
     let n = numbers_of(&head);
-    if n[13] == KEPT {
+    if n[15] == KEPT {
         return call(n, before, bytes, records, payload);
     }
-    let name = wide(n[13]);
-    let text = name + wide(n[14]);
-    let classes = text + wide(n[15]);
+    let name = wide(n[15]);
+    let text = name + wide(n[16]);
+    let classes = text + wide(n[17]);
     if bytes.len() < classes {
         return last(b"a frame is too large\n");
     }

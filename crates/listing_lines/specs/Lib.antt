@@ -1,5 +1,3 @@
 -- `Line` is what the listing shows of an item, `Writing` what the functions that write it promise and ask for.
 pub mod Line
 pub mod Writing
--- What the listing's functions promise and ask for.
-pub mod Rounds

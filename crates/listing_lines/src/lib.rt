@@ -2,7 +2,6 @@
 // one after the other from the front of the lent buffer on, the rest of which keeps what it held, and the answer is their
 // length. Assumed: nothing but what each function's `requires` says: the buffer has room for the longest line, 106 bytes,
 // for each record.
-pub mod rounds; // rounds.rt: what the listing is lent, what one of its runs gives, and laws of its runs: how long payloads are, and what all runs list
 mod kind_names; // kind_names.rt: the kinds' names by number
 
 use definition::RECORD;

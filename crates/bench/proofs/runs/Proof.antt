@@ -7,13 +7,10 @@ use Rattle.bench.proofs.runs.Statement.{statement}
 use Rattle.bench.proofs.runs.Tie as tie
 
 abbrev Inv-loop : tie.InvT-loop
-Inv-loop rounds text classes records₀ payload₀ started last₀ counter₀ records payload last counter = (length records ≡ length records₀) × (length payload ≡ length payload₀)
+Inv-loop rounds text classes start records₀ payload₀ last₀ counter₀ records payload last counter = (length records ≡ length records₀) × (length payload ≡ length payload₀)
 
 abbrev μ-loop : tie.MeasureT-loop
-μ-loop rounds text classes records₀ payload₀ started last₀ counter₀ records payload last counter = rounds - counter
-
-start-requires : tie.Need-start-requires Inv-loop μ-loop
-start-requires c κs = search needs
+μ-loop rounds text classes start records₀ payload₀ last₀ counter₀ records payload last counter = rounds - counter
 
 loop-holds : tie.Need-loop-holds Inv-loop μ-loop
 loop-holds c = search needs
@@ -45,7 +42,6 @@ runs-spec =
     (tie.spec
     Inv-loop
     μ-loop
-    start-requires
     loop-holds
     whole-run-requires
     add-counter

@@ -7,10 +7,10 @@ use Rattle.cases.proofs.numbers_of.Statement.{statement}
 use Rattle.cases.proofs.numbers_of.Tie as tie
 
 abbrev Inv-loop : tie.InvT-loop
-Inv-loop head numbers₀ k₀ numbers k = length numbers ≡ 16
+Inv-loop head numbers₀ k₀ numbers k = length numbers ≡ 18
 
 abbrev μ-loop : tie.MeasureT-loop
-μ-loop head numbers₀ k₀ numbers k = 16 - k
+μ-loop head numbers₀ k₀ numbers k = 18 - k
 
 loop-holds : tie.Need-loop-holds Inv-loop μ-loop
 loop-holds c = search needs

@@ -1,5 +1,5 @@
--- What the rounds of the listing hand over to be written, one after the other, are the lines of all items. Rests on the laws of runs
--- (crate `laws_run`).
+-- What the rounds of a listing hand over to be written, one after the other, are the lines of all items. Rests on what one run has done
+-- (EitherRuns).
 use Prim.Native.Nat.{ℕ, _+_}
 use mathlib.Core.Path.{_≡_, refl, sym, ap, ap₂, _∙_}
 use mathlib.Core.List.{List, [], _∷_, _++_, append-assoc}
@@ -7,17 +7,15 @@ use lib.ListN.{length, take, drop}
 use lib.Seq.{take-at, drop-at}
 use Rattle.definition.specs.Basics.{Bytes}
 use Rattle.definition.specs.Item.{Step, record-size, words}
-use Rattle.definition.specs.Run.{refusal, run}
+use Rattle.definition.specs.Items.{records-of}
 use Rattle.definition.specs.declared.Item.{Item}
-use Rattle.definition.specs.declared.State.{State}
 use Rattle.lemmas.specs.Over.{over}
-use Rattle.laws_run.proofs.Refusals.{run-accepted}
-use Rattle.definition.specs.Items.{steps-of, records-of}
-use Rattle.laws_run.proofs.Items.{steps-of-end, steps-then}
 use Rattle.laws_run.proofs.Buffers.{words-size}
-use Rattle.laws_run.proofs.Laws.{run-done}
+use Rattle.either_run.specs.Either.{either-run, either-refusal, either-items}
+use Rattle.either_run.specs.declared.Saved.{Saved}
 use Rattle.listing_lines.specs.Line.{line, lines}
-use Rattle.listing_lines.specs.Rounds.{lines-of, listing}
+use Rattle.listing_rounds.specs.Rounds.{lines-of, listing}
+use Rattle.listing_rounds.proofs.EitherRuns.{either-did}
 
 -- a line doesn't show word 6
 line-without-6 : (t : Item) (used : ℕ) → line (words t used) ≡ line (words t 0)
@@ -46,21 +44,20 @@ lines-of-append [] us = refl
 lines-of-append (t ∷ ts) us =
     ap (λ (r : Bytes). line (words (t .item) 0) ++ r) (lines-of-append ts us) ∙ sym (append-assoc (line (words (t .item) 0)) (lines-of ts) (lines-of us))
 
-module _ (s name f : Bytes) (st : State) where
+module _ (s name f : Bytes) (from : Saved) (rs : List ℕ) (ps : Bytes) (taken : either-refusal s name f from ≡ 0) where
   -- What a round hands over, and then the lines from the state that its run handed back, are the lines from the state given,
-  pub round-lines : (rs : List ℕ) (ps : Bytes) → refusal s name f st .0 ≡ 0
-      → listing s name f st ≡ lines (run s name f st rs ps .0 .count) (run s name f st rs ps .1) ++ listing s name f (run s name f st rs ps .0 .state)
+  pub round-lines : let o = either-run s name f from rs ps in listing s name f from ≡ lines (o .0 .count) (o .1) ++ listing s name f (o .0 .state)
   unfolding over
-  round-lines rs ps taken =
-      let o = run s name f st rs ps in
-      let d = run-done s name f st rs ps taken in
+  round-lines =
+      let o = either-run s name f from rs ps in
+      let d = either-did s name f rs ps from taken in
       let found : lines (o .0 .count) (o .1) ≡ lines-of (d .ts) =
-      ap₂ (λ (n : ℕ) (l : List ℕ). lines n l) (d .count) (d .filled .records) ∙ lines-found 0 (d .ts) _ in
-      ap lines-of (steps-then s name f st (d .ts) (o .0 .state) (run-accepted s name f st taken .stands .sound .opened) (d .filled .steps))
-      ∙ lines-of-append (d .ts) (steps-of s name f (o .0 .state))
+      ap₂ (λ (n : ℕ) (l : List ℕ). lines n l) (d .count) (d .records) ∙ lines-found 0 (d .ts) _ in
+      ap lines-of (d .items)
+      ∙ lines-of-append (d .ts) (either-items s name f (o .0 .state))
       ∙ ap (λ (b : Bytes). b ++ listing s name f (o .0 .state)) (sym found)
 
-  -- and at the end there are none.
-  pub no-lines : st .mode ≡ 2 → listing s name f st ≡ []
+  -- and after the last round there are none.
+  pub no-lines : either-run s name f from rs ps .0 .stop ≡ 0 → listing s name f (either-run s name f from rs ps .0 .state) ≡ []
   unfolding lines-of
-  no-lines m = ap lines-of (steps-of-end s name f st m)
+  no-lines q = ap lines-of (either-did s name f rs ps from taken .ended q)

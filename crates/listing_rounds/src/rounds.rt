@@ -1,18 +1,18 @@
-// The rounds of the listing: what it is lent, what one run, a round, gives, and how it all ends.
+// The rounds of a listing: what it is lent, what one run, a round, gives, and how it all ends.
 // Proved: what a round leaves in the buffer to be written are the definition's lines of its run's records, so that in all it is
 // a line for each item (proofs/Whole.antt), and each round but the last lists an item (proofs/RunsOn.antt); the buffers are as
 // long as they are said to be. Assumed: nothing but what each function's `requires` says.
-use crate::lines_into;
 use definition::RECORD;
-use definition::RunAnswer;
-use definition::State;
+use either_run::Answer;
+use either_run::Saved;
+use listing_lines::lines_into;
 ghost use mathlib.Core.Path.{_≡_};
 ghost use Prim.Native.Nat.{_*_};
 ghost use lib.Dec.{ltb};
 ghost use lib.ListN.{length};
 ghost use Rattle.definition.specs.Item.{record-size};
 ghost use Rattle.listing_lines.specs.Writing.{Room};
-ghost use Rattle.listing_lines.specs.Rounds.{Told};
+ghost use Rattle.listing_rounds.specs.Rounds.{Told};
 
 // Whether a text of so many bytes is too long to be listed.
 pub fn too_long(bytes: usize) -> bool
@@ -51,12 +51,12 @@ pub enum Round {
         bytes: usize,
         items: u32,
         stop: u32,
-        next: State,
+        next: Saved,
     },
 }
 
 // Makes lines of the items of a run that answered so and left such records.
-pub fn round_of(answer: RunAnswer, records: &[u32], out: &mut [u8]) -> Round
+pub fn round_of(answer: Answer, records: &[u32], out: &mut [u8]) -> Round
     requires { ⌜ (answer .refusal ≡ 0 → Room (now records) (answer .count) (now out)) ⌝ }
     ensures { λ r. ⌜ Told answer (now (records .entry)) (now (out .entry)) r (now (out .exit)) ⌝ }
 {

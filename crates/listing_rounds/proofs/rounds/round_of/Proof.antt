@@ -1,8 +1,8 @@
 -- A refusal is told; where there is none, there is room for the lines.
-use Rattle.listing_lines.specs.Rounds.{Told}
+use Rattle.listing_rounds.specs.Rounds.{Told}
 use borrow.Author.Needs.{needs}
-use Rattle.listing_lines.proofs.rounds.round_of.Statement.{statement}
-use Rattle.listing_lines.proofs.rounds.round_of.Tie as tie
+use Rattle.listing_rounds.proofs.rounds.round_of.Statement.{statement}
+use Rattle.listing_rounds.proofs.rounds.round_of.Tie as tie
 
 returns : tie.Need-returns
 unfolding Told
