@@ -32,7 +32,7 @@ ascii-count s i (suc n) h =
 ascii-column : (s : Bytes) (st : State) (known : Cache) (p : AsciiRun) (i : ℕ) → Plain s p → p .from ≤ known .off → known .off ≤ i → i ≤ p .to
     → Asked one-each s st known i → _≡_ {A = Cache} (record { off = i; col = known .col + (i - known .off) }) (column-at one-each s st i)
 ascii-column s st known p i h f b t a =
-    from-known one-each s st known i (i - known .off) a b
+    from-known one-each s st known i (i - known .off) (a .cached) b
     (sym (ascii-count s (known .off) (i - known .off) (λ k x y. h k (omega arith) (omega arith))))
 
 -- both ends of a token that a run of ASCII covers

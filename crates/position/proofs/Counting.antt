@@ -1,8 +1,8 @@
 -- The laws of the count and of columns, for any weight: a count is cut at any place, the loop that makes it, the column that goes on
--- from a known one; and that the count of characters is at most the bytes. Rests on nothing but the definition.
-use Prim.Native.Nat.{ℕ, zero, suc, _+_, _-_, _≤_, _<_}
+-- from a known one; what a byte counts, by its quotient by 64; and that the count of characters is at most the bytes. Rests on the
+-- definition, and on the laws of cases (crate `lemmas`).
+use Prim.Native.Nat.{ℕ, zero, suc, _+_, _-_, _*_, _/_, _%_, _≤_, _<_}
 use native.Mathlib.Nat.{zero-add, suc-add, add-assoc, add-suc, add-zero}
-use native.Mathlib.Numerals.{add-one}
 use native.Mathlib.Omega.{arith}
 use mathlib.Core.Path.{_≡_, refl, sym, ap, _∙_}
 use mathlib.Core.Bool.{Bool, true, false}
@@ -11,6 +11,7 @@ use borrow.Author.Tests.{le-leb, lt-leb}
 use Rattle.definition.specs.Basics.{Bytes}
 use Rattle.definition.specs.Position.{Weight, one-each, is-continuation, weight-at, count-chars, col-by, col-of}
 use Rattle.definition.specs.declared.State.{State}
+use Rattle.lemmas.proofs.Cases.{by-order}
 use Rattle.position.specs.declared.Cache.{Cache}
 use Rattle.position.specs.Columns.{unit, Known, Asked, column-at}
 
@@ -52,13 +53,23 @@ pub below-tails : (b : ℕ) → b < 0x80 → 1 ≡ unit b
 unfolding unit is-continuation
 below-tails b h = rw (lt-leb 0x80 b h, unit)
 
-pub in-tails : (b : ℕ) → 0x80 ≤ b → b ≤ 0xBF → 0 ≡ unit b
+in-tails : (b : ℕ) → 0x80 ≤ b → b ≤ 0xBF → 0 ≡ unit b
 unfolding unit is-continuation
 in-tails b h k = rw (le-leb 0x80 b h, le-leb b 0xBF k, unit)
 
-pub above-tails : (b : ℕ) → 0x80 ≤ b → 0xBF < b → 1 ≡ unit b
+above-tails : (b : ℕ) → 0x80 ≤ b → 0xBF < b → 1 ≡ unit b
 unfolding unit is-continuation
 above-tails b h k = rw (le-leb 0x80 b h, lt-leb b 0xBF k, unit)
+
+-- for every byte the arithmetic on its quotient by 64 is 0 from 128 to 191, and 1 otherwise
+pub by-quotient : (b : ℕ) → b ≤ 255 → (3 * (b / 64) + 4) / 4 % 2 ≡ unit b
+by-quotient b h =
+    by-order b 0x80
+    (λ l. by-order b 0x40 (λ k. quotient 0 (omega arith) (below-tails b l)) (λ k. quotient 1 (omega arith) (below-tails b l)))
+    (λ l. by-order 0xBF b (λ k. quotient 3 (omega arith) (above-tails b l k)) (λ k. quotient 2 (omega arith) (in-tails b l k)))
+  where
+    quotient : (q : ℕ) → b / 64 ≡ q → (3 * q + 4) / 4 % 2 ≡ unit b → (3 * (b / 64) + 4) / 4 % 2 ≡ unit b
+    quotient q e u = rw e u
 
 pub unit-small : (b : ℕ) → unit b ≤ 1
 unfolding unit
@@ -89,14 +100,20 @@ module _ (w : Weight) (s : Bytes) (i j : ℕ) where
   pub counting-starts : Counting w s i j 0 i
   counting-starts = record { on = omega arith; left = zero-add (count-chars w s i (j - i)) }
 
+  -- it goes on by the bytes from k up to m
+  pub counting-goes-to : (n k m : ℕ) → k ≤ m → m ≤ j → Counting w s i j n k → Counting w s i j (n + count-chars w s k (m - k)) m
+  counting-goes-to n k m h t c =
+      let l = c .left in
+      let f = c .on in
+      record { on = omega arith; left = omega (arith, count-through w s k m j h t) }
+
+  -- and so by one byte
   pub counting-goes-on : (n k : ℕ) → k < j → Counting w s i j n k → Counting w s i j (n + weight-at w s k) (k + 1)
   unfolding count-chars
   counting-goes-on n k h c =
-      let m : j - k ≡ suc (j - (k + 1)) = omega arith in
-      let e : count-chars w s k (j - k) ≡ weight-at w s k + count-chars w s (suc k) (j - (k + 1)) = ap (count-chars w s k) m in
-      let l = c .left in
-      let f = c .on in
-      record { on = omega arith; left = rw add-one (omega (arith, rw add-one at e)) }
+      let m : k + 1 - k ≡ 1 = omega arith in
+      let e : count-chars w s k (k + 1 - k) ≡ weight-at w s k = ap (count-chars w s k) m ∙ add-zero (weight-at w s k) in
+      rw e at (counting-goes-to n k (k + 1) (omega arith) (omega arith) c)
 
   pub counting-ends : (n k : ℕ) → j ≤ k → Counting w s i j n k → n ≡ count-chars w s i (j - i)
   unfolding count-chars
@@ -119,19 +136,18 @@ known-again w s st i h = record { after = h; column = refl }
 
 -- from the known offset on
 pub from-known : (w : Weight) (s : Bytes) (st : State) (known : Cache) (i n : ℕ)
-    → Asked w s st known i
+    → Known w s st known
     → known .off ≤ i
     → n ≡ count-chars w s (known .off) (i - known .off)
     → _≡_ {A = Cache} (record { off = i; col = known .col + n }) (column-at w s st i)
 from-known w s st known i n a h e =
     ap (λ (x : ℕ). record { off = i; col = x })
-    (rw (a .cached .column, e) (column-on w s st (known .off) i (a .cached .after) h))
+    (rw (a .column, e) (column-on w s st (known .off) i (a .after) h))
 
--- from the line start on
-pub from-start : (w : Weight) (s : Bytes) (st : State) (i n : ℕ) → n ≡ count-chars w s (st .bol) (i - st .bol)
-    → _≡_ {A = Cache} (record { off = i; col = st .column + n }) (column-at w s st i)
+-- the line start is known
+pub start-known : (w : Weight) (s : Bytes) (st : State) → Known w s st (record { off = st .bol; col = st .column })
 unfolding col-by
-from-start w s st i n e = ap (λ (x : ℕ). record { off = i; col = st .column + x }) e
+start-known w s st = record { after = omega arith; column = omega (arith, count-none w s (st .bol)) }
 
 -- ---- the numbers stay small
 

@@ -7,8 +7,9 @@ use crate::known_after;
 use definition::State;
 ghost use mathlib.Core.Bool.{true};
 ghost use mathlib.Core.Path.{_≡_};
-ghost use Prim.Native.Nat.{_+_, _≤_};
-ghost use lib.ListN.{length};
+ghost use Prim.Native.Nat.{_+_, _-_, _≤_};
+ghost use lib.Dec.{leb};
+ghost use lib.ListN.{length, getD};
 ghost use Rattle.definition.specs.Position.{one-each};
 ghost use Rattle.position.specs.Columns.{Asked, column-at};
 ghost use Rattle.position.specs.AsciiRuns.{Ascii, AsciiTo, Plain, Covers};
@@ -43,13 +44,28 @@ pub fn ascii_from(text: &[u8], i: usize) -> usize
     i
 }
 
+// Whether the byte before `to` is beyond ASCII; where the text ends before that byte, no.
+fn ends_beyond_ascii(text: &[u8], to: usize) -> bool
+    requires { ⌜ 1 ≤ to ⌝ }
+    ensures { λ r. ⌜ r ≡ leb 128 (getD (now (text .entry)) (to - 1) 0) ⌝ }
+{
+    if text.len() < to {
+        return false;
+    }
+    128 <= text[to - 1]
+}
+
 // A run of ASCII that may hold the bytes from the known offset up to `to`: the one given where it reaches so far, else one that
-// is looked for after the known offset.
+// is looked for after the known offset. Where the last of those bytes is beyond ASCII no run holds them: none is looked for, and
+// the one given is handed back.
 pub fn ascii_run(text: &[u8], known: Cache, plain: AsciiRun, to: usize) -> AsciiRun
     requires { ⌜ Plain (now text) plain ⌝ }
     ensures { λ r. ⌜ Plain (now (text .entry)) r ⌝ }
 {
     if to <= plain.to {
+        return plain;
+    }
+    if ends_beyond_ascii(text, to) {
         return plain;
     }
     let from = known.off as usize;

@@ -8,7 +8,7 @@ pub mod ascii_runs; // ascii_runs.rt: the functions
 pub mod columns; // columns.rt: the columns of a token's ends, without a count where the bytes before them are known to be ASCII
 
 ghost use mathlib.Core.Path.{_≡_};
-ghost use Prim.Native.Nat.{_-_, _≤_};
+ghost use Prim.Native.Nat.{_-_, _≤_, _<_};
 ghost use lib.ListN.{length};
 ghost use Rattle.definition.specs.Position.{count-chars, one-each};
 ghost use Rattle.position.specs.Columns.{unit, Asked, column-at, located};
@@ -27,25 +27,21 @@ pub struct Located {
     pub known: Cache,
 }
 
-// What a byte counts in a column.
-fn unit(b: u8) -> usize
+// What a byte counts in a column: 0 from 128 to 191, where it goes on with a character, and 1 otherwise, by arithmetic on its
+// quotient by 64, without a test.
+fn unit(b: u8) -> u8
     ensures { λ r. ⌜ r ≡ unit b ⌝ }
 {
-    if b < 0x80 {
-        return 1;
-    }
-    if b <= 0xBF {
-        return 0;
-    }
-    1
+    (3 * (b / 64) + 4) / 4 % 2
 }
 
-// The source's `count_chars`: how many characters start in the bytes from i up to j.
-pub fn count_chars(text: &[u8], i: usize, j: usize) -> usize
-    requires { ⌜ j ≤ length (now text) ⌝ }
+// How many characters start in the bytes from i up to j. The bytes are 255 at most, so that the sum fits a byte: the compiler
+// then adds up 32 of them in one turn of the loop, where it adds up 8 with a sum of 32 bits.
+fn count_part(text: &[u8], i: usize, j: usize) -> u8
+    requires { ⌜ (j ≤ length (now text)) × (j - i ≤ 255) ⌝ }
     ensures { λ r. ⌜ r ≡ count-chars one-each (now (text .entry)) i (j - i) ⌝ }
 {
-    let mut n: usize = 0;
+    let mut n: u8 = 0;
     let mut k = i;
     while k < j {
         n += unit(text[k]);
@@ -54,26 +50,63 @@ pub fn count_chars(text: &[u8], i: usize, j: usize) -> usize
     n
 }
 
+// Where the part that begins at k ends: 224 bytes on, which are seven turns of 32, or at j where that is nearer.
+fn part_end(k: usize, j: usize) -> usize
+    requires { ⌜ k < j ⌝ }
+    ensures { λ r. ⌜ (k < r) × (r ≤ j) × (r - k ≤ 255) ⌝ }
+{
+    if j - k <= 224 {
+        return j;
+    }
+    k + 224
+}
+
+// How many characters start in the bytes from i up to j, however many those are, part by part.
+fn count_parts(text: &[u8], i: usize, j: usize) -> usize
+    requires { ⌜ j ≤ length (now text) ⌝ }
+    ensures { λ r. ⌜ r ≡ count-chars one-each (now (text .entry)) i (j - i) ⌝ }
+{
+    let mut n: usize = 0;
+    let mut k = i;
+    while k < j {
+        let end = part_end(k, j);
+        n += count_part(text, k, end) as usize;
+        k = end;
+    }
+    n
+}
+
+// The source's `count_chars`: how many characters start in the bytes from i up to j. Most counts are of a few bytes, one part,
+// and are made without the loop over parts.
+pub fn count_chars(text: &[u8], i: usize, j: usize) -> usize
+    requires { ⌜ j ≤ length (now text) ⌝ }
+    ensures { λ r. ⌜ r ≡ count-chars one-each (now (text .entry)) i (j - i) ⌝ }
+{
+    if j <= i {
+        return 0;
+    }
+    if j - i < 32 {
+        return count_part(text, i, j) as usize;
+    }
+    count_parts(text, i, j)
+}
+
 // The offset asked for, with its column, by value. It counts on from the known offset, or from the line start where the
 // known offset is past the one asked for.
 fn column_from(text: &[u8], st: State, known: Cache, i: u32) -> Cache
     requires { ⌜ Asked one-each (now text) st known i ⌝ }
     ensures { λ r. ⌜ r ≡ column-at one-each (now (text .entry)) st i ⌝ }
 {
-    let to = i as usize;
-    if known.off <= i {
-        let from = known.off as usize;
-        let n = count_chars(text, from, to);
-        return Cache {
-            off: i,
-            col: known.col + n as u32,
-        };
+    let mut from = known.off;
+    let mut col = known.col;
+    if i < known.off {
+        from = st.bol;
+        col = st.column;
     }
-    let from = st.bol as usize;
-    let n = count_chars(text, from, to);
+    let n = count_chars(text, from as usize, i as usize);
     Cache {
         off: i,
-        col: st.column + n as u32,
+        col: col + n as u32,
     }
 }
 
