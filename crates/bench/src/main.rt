@@ -1,5 +1,5 @@
 // Runs the lexer over standard input as many times as the first argument says, once where there is none, and writes how
-// many items one whole run gives, or REFUSED and the number; after it a number of the records and a byte of the payload, which
+// many items one whole run gives, or `REFUSED with number` and the number; after it a number of the records and a byte of the payload, which
 // ones the count decides. Any of them may be read so: the compiler leaves out the writing of what nobody reads, and a lexer
 // that writes no records would be timed. With 16 as the second argument the runs are those whose positions count UTF-16 units. With 8
 // it only checks the text's UTF-8 so many times, and writes how many of its first bytes are legal: bench/measure sets that time
@@ -161,7 +161,8 @@ fn main() {
         &mut payload,
     );
     if last.refusal != 0 {
-        io::write_all(STDOUT_FILENO, b"REFUSED ");
+        // How long this message is decides where the code stands: docs/PERFORMANCE.md, "Where the code stands".
+        io::write_all(STDOUT_FILENO, b"REFUSED with number ");
         say(last.refusal as u64);
         return;
     }
