@@ -1,2 +1,1 @@
 pub mod AsciiTables
-pub mod Source

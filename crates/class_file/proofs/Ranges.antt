@@ -23,7 +23,7 @@ pub record Step (n : ℕ) (r : Range) (rs : List Range) : Type 0 where
   pub rest : ascending (suc r.1) rs ≡ true
 
 -- a list that ascends takes such a step at its first range
-ascending_step : (n : ℕ) (r : Range) (rs : List Range) → ascending n (r ∷ rs) ≡ true → Step n r rs
+pub ascending_step : (n : ℕ) (r : Range) (rs : List Range) → ascending n (r ∷ rs) ≡ true → Step n r rs
 unfolding ascending
 ascending_step n r rs =
     by_bool (λ t. elim (t && (leb r.0 r.1 && leb r.1 1114111)) [ true ↦ ascending (suc r.1) rs | false ↦ false ] ≡ true → Step n r rs) (leb n r.0)

@@ -1,29 +1,36 @@
 -- The search among the ranges of an ascending list: what each step of it leaves, and that its answer is the only range
--- that can have the code point. It is stated over any list, so the classes of a file and the built-in table share it.
+-- that can hold the code point. It is stated over any list, so the classes of a file and the built-in table share it.
 -- Rests on what an ascending list says of its ranges. Assumes nothing.
 use Prim.Native.Nat.{ℕ, zero, suc, ◌+◌, ◌≤◌, ◌<◌, zero-le, suc-le-suc}
-use mathlib.Core.Path.{◌≡◌, refl, sym, ap}
+use mathlib.Core.Path.{◌≡◌, refl, ap, ◌∙◌}
 use mathlib.Core.Bool.{Bool, true, false, ◌&&◌}
 use mathlib.Core.List.{List, [], ◌∷◌}
 use mathlib.Core.Logic.{⊎_elim}
 use native.Mathlib.Omega.{arith}
-use native.Mathlib.Nat.{le_of_suc-le-suc, not-suc-le-zero, le_trans, eq-or-lt_of_le}
+use native.Mathlib.Nat.{le_of_suc-le-suc, not-suc-le-zero, le_trans, zero-add, add-zero, eq-or-lt_of_le}
 use native.Mathlib.Numerals.{add-one}
 use lib.Dec.{leb}
 use lib.ListN.{length}
-use borrow.Author.Tests.{lt-ltb, le-ltb, leb-true, leb-false}
-use Rattle.definition.specs.Basics.{ascii_limit, between}
-use Rattle.definition.specs.ClassFile.{Range, ascending, holding, held}
-use Rattle.definition.specs.declared.Held.{Held}
-use Rattle.definition.specs.declared.Held.TheVariants.{By, ByNone}
-use Rattle.lemmas.proofs.Cases.{by_bool, by_order, by_lt}
+use borrow.Author.Tests.{le-leb, lt-leb, leb-true, leb-false}
+use Rattle.definition.specs.Basics.{between}
+use Rattle.definition.specs.ClassFile.{Range, in_ranges, ascending}
+use Rattle.lemmas.proofs.Cases.{by_bool, by_order}
 use Rattle.class_file.specs.Ends.{first_at, last_at}
-use Rattle.class_file.proofs.Ranges.{Reads, each_legal, apart}
-use Rattle.class_file.specs.Search.{Has, Answers}
+use Rattle.class_file.proofs.Ranges.{ascending_step, each_legal, apart}
+use Rattle.class_file.specs.declared.members.Found.TheVariants.{At, Nothing}
+use Rattle.class_file.specs.Search.{Holds, range_from, range_of, is_found}
 
 -- ---- the test of a range
 
 module _ (a b c : ℕ) where
+  -- a number that a range holds passes its test
+  pub between_yes : a ≤ c → c ≤ b → between a b c ≡ true
+  between_yes p q = simp (le-leb a c p, le-leb c b q)
+
+  -- one above it doesn't
+  pub between_above : b < c → between a b c ≡ false
+  between_above p = by_bool (λ t. (t && leb c b) ≡ false) (leb a c) (λ e. lt-leb c b p) (λ e. refl)
+
   -- a range's test by its three cases: within, below and above
   pub between_cases : (P : Bool → Type 0) → (a ≤ c → c ≤ b → P true) → (c < a → P false) → (b < c → P false) → P (between a b c)
   between_cases P within below above =
@@ -31,78 +38,90 @@ module _ (a b c : ℕ) where
       (λ e. by_bool P (leb c b) (λ q. within (leb-true a c e) (leb-true c b q)) (λ q. above (leb-false c b q)))
       (λ e. below (leb-false a c e))
 
--- ---- which range has a code point
+-- ---- what `range_of` answers, of any list
 
--- a range of the rest of a list, by its place in the list
-later : {r : Range} {rs : List Range} {c i : ℕ} → Has rs c i → Has (r ∷ rs) c (suc i)
-later h = record { there = suc-le-suc h.there; from = h.from; to = h.to }
+-- the range that is answered, counted from n, holds c
+holds_from : (n : ℕ) (rs : List Range) (c i : ℕ) → range_from n rs c ≡ At i → (k : ℕ) × ((i ≡ n + k) × Holds rs c k)
+unfolding range_from
+holds_from n [] c i = λ e. absurd (let z : ◌≡◌ {A = ℕ} 0 1 = cc in omega arith)
+holds_from n (r ∷ rs) c i =
+    let later : range_from (suc n) rs c ≡ At i → (k : ℕ) × ((i ≡ n + k) × Holds (r ∷ rs) c k) = λ e.
+    let w = holds_from (suc n) rs c i e in
+    (suc w.0, (omega (arith, w.1.0), record { there = suc-le-suc w.1.1.there; from = w.1.1.from; to = w.1.1.to })) in
+    between_cases r.0 r.1 c
+    (λ t. elim t [ true ↦ At n | false ↦ range_from (suc n) rs c ] ≡ At i → (k : ℕ) × ((i ≡ n + k) × Holds (r ∷ rs) c k))
+    (λ p q e. let z : n ≡ i = cc in (0, (omega arith, record { there = suc-le-suc zero-le; from = p; to = q })))
+    (λ p e. later e)
+    (λ p e. later e)
 
--- and back
-earlier : {r : Range} {rs : List Range} {c i : ℕ} → Has (r ∷ rs) c (suc i) → Has rs c i
-earlier h = record { there = le_of_suc-le-suc h.there; from = h.from; to = h.to }
+-- a range that is answered holds c
+pub found_holds : (rs : List Range) (c i : ℕ) → range_of rs c ≡ At i → Holds rs c i
+unfolding range_of
+found_holds rs c i e =
+    let w = holds_from 0 rs c i e in
+    let q : w.0 ≡ i = omega (arith, w.1.0) in
+    rw q at w.1.1
 
--- where neither the first range nor one of the rest has c, none has
-no_later : {r : Range} {rs : List Range} {c : ℕ} → (Has (r ∷ rs) c 0 → ⊥) → ((i : ℕ) → Has rs c i → ⊥) → (i : ℕ) → Has (r ∷ rs) c i → ⊥
-no_later first rest zero h = first h
-no_later first rest (suc i) h = rest i (earlier h)
+-- whether a range is answered is whether c is in one of the ranges
+from_in_ranges : (n : ℕ) (rs : List Range) (c : ℕ) → is_found (range_from n rs c) ≡ in_ranges rs c
+unfolding range_from in_ranges
+from_in_ranges n [] c = refl
+from_in_ranges n (r ∷ rs) c =
+    by_bool (λ t. is_found (elim t [ true ↦ At n | false ↦ range_from (suc n) rs c ]) ≡ elim t [ true ↦ true | false ↦ in_ranges rs c ]) (between r.0 r.1 c)
+    (λ e. refl)
+    (λ e. from_in_ranges (suc n) rs c)
 
--- `holding` by its two cases: a range of the list that has c, or none where none has
-holding_cases : (rs : List Range) (c : ℕ) (P : Held → Type 0)
-    → ((i : ℕ) → Has rs c i → P (By (first_at rs i) (last_at rs i)))
-    → (((i : ℕ) → Has rs c i → ⊥) → P ByNone)
-    → P (holding rs c)
-unfolding holding
-holding_cases [] c P found none = none (λ i h. not-suc-le-zero h.there)
-holding_cases (r ∷ rs) c P found none =
-    let rest : (Has (r ∷ rs) c 0 → ⊥) → P (holding rs c) = λ no.
-    holding_cases rs c P (λ i h. found (suc i) (later h)) (λ n. none (no_later no n)) in
-    between_cases r.0 r.1 c (λ t. P (elim t [ true ↦ By r.0 r.1 | false ↦ holding rs c ]))
-    (λ p q. found 0 (record { there = suc-le-suc zero-le; from = p; to = q }))
-    (λ p. rest (λ h. omega (arith, h.from)))
-    (λ p. rest (λ h. omega (arith, h.to)))
+-- and so of the whole list
+pub found_in_ranges : (rs : List Range) (c : ℕ) → is_found (range_of rs c) ≡ in_ranges rs c
+unfolding range_of
+found_in_ranges rs c = from_in_ranges 0 rs c
 
--- where no range has c, none is answered
-none_found : (rs : List Range) (c : ℕ) → ((i : ℕ) → Has rs c i → ⊥) → holding rs c ≡ ByNone
-none_found rs c no_range = holding_cases rs c (λ h. h ≡ ByNone) (λ i h. absurd (no_range i h)) (λ _. refl)
+-- where no range holds c, nothing is answered
+none_from : (n : ℕ) (rs : List Range) (c : ℕ) → ((i : ℕ) → Holds rs c i → ⊥) → range_from n rs c ≡ Nothing
+unfolding range_from
+none_from n [] c no_range = refl
+none_from n (r ∷ rs) c no_range =
+    let later = none_from (suc n) rs c (λ i h. no_range (suc i) (record { there = suc-le-suc h.there; from = h.from; to = h.to })) in
+    between_cases r.0 r.1 c (λ t. elim t [ true ↦ At n | false ↦ range_from (suc n) rs c ] ≡ Nothing)
+    (λ p q. absurd (no_range 0 (record { there = suc-le-suc zero-le; from = p; to = q })))
+    (λ p. later)
+    (λ p. later)
+
+-- and so of the whole list
+pub none_found : (rs : List Range) (c : ℕ) → ((i : ℕ) → Holds rs c i → ⊥) → range_of rs c ≡ Nothing
+unfolding range_of
+none_found rs c no_range = none_from 0 rs c no_range
+
+-- ---- and of a list that ascends
+
+-- a range that holds c is the one that is answered
+only_from : (m n : ℕ) (rs : List Range) (c i : ℕ) → ascending m rs ≡ true → Holds rs c i → range_from n rs c ≡ At (n + i)
+unfolding range_from
+only_from m n [] c i up h = absurd (not-suc-le-zero h.there)
+only_from m n (r ∷ rs) c zero up h = rw (range_from, between_yes r.0 r.1 c h.from h.to, add-zero)
+only_from m n (r ∷ rs) c (suc i) up h =
+    let s = ascending_step m r rs up in
+    let l = each_legal (suc r.1) rs s.rest i (le_of_suc-le-suc h.there) in
+    let e : suc n + i ≡ n + suc i = omega arith in
+    rw (range_from, between_above r.0 r.1 c (le_trans l.on h.from), ← e)
+    (only_from (suc r.1) (suc n) rs c i s.rest (record { there = le_of_suc-le-suc h.there; from = h.from; to = h.to }))
 
 module _ {rs : List Range} (up : ascending 0 rs ≡ true) where
-  -- no two ranges of an ascending list have the same code point
-  only_range : (c i j : ℕ) → Has rs c i → Has rs c j → i ≡ j
-  only_range c i j h k =
-      by_order i j
-      (λ l. absurd (omega (arith, apart 0 rs up i j l k.there, h.to, k.from)))
-      (λ l. ⊎_elim (λ e. sym e) (λ m. absurd (omega (arith, apart 0 rs up j i m h.there, k.to, h.from))) (eq-or-lt_of_le l))
+  -- the answer is the range that holds c
+  pub found_only : (c i : ℕ) → Holds rs c i → range_of rs c ≡ At i
+  unfolding range_of
+  found_only c i h = only_from 0 0 rs c i up h ∙ ap At (zero-add i)
 
-  -- so a range that has c is the one that is answered
-  found_only : (c i : ℕ) → Has rs c i → holding rs c ≡ By (first_at rs i) (last_at rs i)
-  found_only c i h =
-      holding_cases rs c (λ t. t ≡ By (first_at rs i) (last_at rs i))
-      (λ j k. ap (λ (m : ℕ). By (first_at rs m) (last_at rs m)) (only_range c j i k h))
-      (λ none. absurd (none i h))
+  -- no two ranges hold the same code point
+  pub only_range : (c i j : ℕ) → Holds rs c i → Holds rs c j → i ≡ j
+  only_range c i j h k = let p = found_only c i h in let q = found_only c j k in cc
 
--- ---- the class test
-
-module _ (rs : List Range) (c : ℕ) where
-  -- ASCII is held by none
-  pub held_ascii : c < ascii_limit → held rs c ≡ ByNone
-  unfolding held
-  held_ascii l = rw (held, lt-ltb c ascii_limit l)
-
-  -- any other character by the range that has it
-  pub held_beyond : ascii_limit ≤ c → held rs c ≡ holding rs c
-  unfolding held
-  held_beyond l = rw (held, le-ltb c ascii_limit l)
-
--- what the class test answers says which range of an ascending list holds c, or that none does
-pub held_answers : (rs : List Range) → ascending 0 rs ≡ true → (c : ℕ) → Answers rs c (held rs c)
-unfolding held
-held_answers rs up c =
-    by_lt (Answers rs c) c ascii_limit
-    (λ ascii i h. ascii)
-    (λ beyond.
-    holding_cases rs c (Answers rs c)
-    (λ i h. record { no_ascii = beyond; place = i; has = h; range = refl; only = λ j k. only_range up c j i k h })
-    (λ none i h. absurd (none i h)))
+  -- where nothing is answered no range holds c
+  pub none_holds : (c i : ℕ) → range_of rs c ≡ Nothing → Holds rs c i → ⊥
+  none_holds c i e h =
+      let p = found_only c i h in
+      let z : ◌≡◌ {A = ℕ} 0 1 = cc in
+      omega arith
 
 -- ---- the search
 
@@ -123,7 +142,7 @@ narrow_start rs c n e = record {
 }
 
 -- it ends with none where there are none left
-pub narrow_none : (rs : List Range) (c low high : ℕ) → Narrowed rs c low high → high ≤ low → holding rs c ≡ ByNone
+pub narrow_none : (rs : List Range) (c low high : ℕ) → Narrowed rs c low high → high ≤ low → range_of rs c ≡ Nothing
 narrow_none rs c low high w h =
     none_found rs c
     (λ i k.
@@ -131,34 +150,31 @@ narrow_none rs c low high w h =
     (λ l. omega (arith, w.before i l, k.to))
     (λ l. omega (arith, w.after i (le_trans h l) k.there, k.from)))
 
--- a turn of it reads a range from low up to high, and goes by its first and its last code point
-module _ {c low high mid first last : ℕ} {rs : List Range} (up : ascending 0 rs ≡ true) (w : Narrowed rs c low high) (r : Reads rs mid first last) (l : low ≤ mid) (h : mid < high) where
-  -- a range that begins above c, and all after it, can't have c
-  pub narrow_high : c < first → Narrowed rs c low mid
+module _ {c low high : ℕ} {rs : List Range} (up : ascending 0 rs ≡ true) (w : Narrowed rs c low high) (mid : ℕ) (l : low ≤ mid) (h : mid < high) where
+  -- a range that begins above c, and all after it, can't hold c
+  pub narrow_high : c < first_at rs mid → Narrowed rs c low mid
   narrow_high p = record {
     in_order = l;
     within = omega (arith, w.within);
     before = w.before;
     after = λ i q t.
-        ⊎_elim (λ e. let before = rw r.is_first at p in rw e at before)
-        (λ m. omega (arith, apart 0 rs up mid i m t, (each_legal 0 rs up mid r.there).whole, r.is_first))
+        ⊎_elim (λ e. rw e at p)
+        (λ m. omega (arith, apart 0 rs up mid i m t, (each_legal 0 rs up mid (omega (arith, w.within))).whole))
         (eq-or-lt_of_le q);
   }
 
   -- nor can a range that ends below c, and all before it
-  pub narrow_low : last < c → Narrowed rs c (mid + 1) high
+  pub narrow_low : last_at rs mid < c → Narrowed rs c (mid + 1) high
   narrow_low p = record {
     in_order = omega arith;
     within = w.within;
     before = λ i q.
-        ⊎_elim (λ e. rw (r.is_last, ← e) at p)
-        (λ m. omega (arith, apart 0 rs up i mid m r.there, (each_legal 0 rs up mid r.there).whole, r.is_last))
+        ⊎_elim (λ e. rw e p)
+        (λ m. omega (arith, apart 0 rs up i mid m (omega (arith, w.within)), (each_legal 0 rs up mid (omega (arith, w.within))).whole))
         (eq-or-lt_of_le (le_of_suc-le-suc (rw add-one at q)));
     after = w.after;
   }
 
   -- a range that neither begins above c nor ends below it is the answer
-  pub narrow_found : first ≤ c → c ≤ last → By first last ≡ holding rs c
-  narrow_found p q =
-      rw (r.is_first, r.is_last)
-      (sym (found_only up c mid (record { there = r.there; from = omega (arith, r.is_first); to = omega (arith, r.is_last) })))
+  pub narrow_found : first_at rs mid ≤ c → c ≤ last_at rs mid → range_of rs c ≡ At mid
+  narrow_found p q = found_only up c mid (record { there = omega (arith, w.within); from = p; to = q })

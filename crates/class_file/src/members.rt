@@ -1,57 +1,61 @@
-// Which range of a class holds a character, in a file that the class check accepted, by binary search; and the six tests that
-// ask whether one does.
+// Membership in a class of a file that the class check accepted, by binary search.
 //
-// Proved: each function's answer is what the definition gives, for any class file that `class_check` accepts. The search halves the
-// ranges at each step, and where it answers none no range holds the character (specs/Search.antt: `Answers`).
+// Proved: each function's answer is what the definition gives, for any class file that `class_check` accepts: the tests by
+// the definition's functions of their names, the search by the ranges of the class (specs/Search.antt). It halves the
+// ranges at each step.
 // Assumed: nothing but what each function's `requires` says.
 ghost use Rattle.std.specs.Prelude.{◌≡◌, ◌<◌};
-ghost use Rattle.definition.specs.ClassFile.{class_check, ranges_of, holding, held, in_class, is_lu, is_lt, is_lo, is_lm, is_zs, is_sm};
+ghost use Rattle.definition.specs.ClassFile.{class_check, ranges_of, in_ranges, is_lu, is_lt, is_lo, is_lm, is_zs, is_sm};
+ghost use Rattle.class_file.specs.Search.{range_of, is_found};
 
 use crate::check::{class_count, class_start, number_at};
-use definition::Held;
 
-const ASCII_LIMIT: u32 = 128;
+// Which range of a list holds a code point.
+#[derive(Drop)]
+pub enum Found {
+    At(usize),
+    Nothing,
+}
 
-// The range of class k that has c among its code points.
-fn search(file: &[u8], k: usize, c: u32) -> Held
+impl Found {
+    // Whether there is such a range.
+    pub fn is_some(self) -> bool
+        ensures { result ≡ is_found self }
+    {
+        match self {
+            Found::At(_) => true,
+            Found::Nothing => false,
+        }
+    }
+}
+
+// The range of class k that holds c.
+pub fn find_range(file: &[u8], k: usize, c: u32) -> Found
     requires { (class_check file.now ≡ 0) × (k < 6) }
-    ensures { result ≡ holding (ranges_of file.now k) c }
+    ensures { result ≡ range_of (ranges_of file.now k) c }
 {
     let start = class_start(file, k);
     let mut low = 0;
     let mut high = class_count(file, k);
     while low < high {
         let mid = low + (high - low) / 2;
-        let first = number_at(file, start + 8 * mid);
-        let last = number_at(file, start + 8 * mid + 4);
-        if c < first {
+        if c < number_at(file, start + 8 * mid) {
             high = mid;
-        } else if last < c {
+        } else if number_at(file, start + 8 * mid + 4) < c {
             low = mid + 1;
         } else {
-            return Held::By(first, last);
+            return Found::At(mid);
         }
     }
-    Held::ByNone
-}
-
-// The class test: the range of class k that holds the character c. ASCII is not looked up.
-pub fn find_range(file: &[u8], k: usize, c: u32) -> Held
-    requires { (class_check file.now ≡ 0) × (k < 6) }
-    ensures { result ≡ held (ranges_of file.now k) c }
-{
-    if c < ASCII_LIMIT {
-        return Held::ByNone;
-    }
-    search(file, k, c)
+    Found::Nothing
 }
 
 // Whether a range of class k holds c.
-fn in_class(file: &[u8], k: usize, c: u32) -> bool
+pub fn in_class(file: &[u8], k: usize, c: u32) -> bool
     requires { (class_check file.now ≡ 0) × (k < 6) }
-    ensures { result ≡ in_class file.now k c }
+    ensures { result ≡ in_ranges (ranges_of file.now k) c }
 {
-    find_range(file, k, c).is_held()
+    find_range(file, k, c).is_some()
 }
 
 // The six classes, in the file's order.

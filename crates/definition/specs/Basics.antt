@@ -47,10 +47,6 @@ fuel s = suc (length s)
 abbrev pub ch : Char → ℕ
 ch c = code c
 
--- the source's `ascii_limit`: a character below it is ASCII
-abbrev pub ascii_limit : ℕ
-ascii_limit = 128
-
 -- the code points of a text as it is written
 abbrev pub codes : String → List ℕ
 codes no_chars = []

@@ -1,7 +1,7 @@
 -- The tests on characters, in the source's order. c is a code point: past the end no test passes (`char_has`, `byte_has`).
 -- "ASCII entries of any class are never consulted": an ASCII character is not looked up in a class.
 use Rattle.std.specs.Prelude.{ℕ, zero, suc, Bool, true, false, ◌||◌, List, [], ◌∷◌, map, ltb, eqb, leb, get_or}
-use Rattle.definition.specs.Basics.{Bytes, ch, ascii_limit, codes, mem_cp, between}
+use Rattle.definition.specs.Basics.{Bytes, ch, codes, mem_cp, between}
 use Rattle.definition.specs.ClassFile.{is_lu, is_lt, is_lo, is_lm, is_zs, is_sm}
 use Rattle.definition.specs.Lowercase.{is_ll}
 
@@ -15,6 +15,9 @@ is_hex c = is_digit c || (between (ch "A") (ch "F") c || between (ch "a") (ch "f
 unfoldable pub count_up : ℕ → ℕ → List ℕ
 count_up k zero = []
 count_up k (suc n) = k ∷ count_up (suc k) n
+
+abbrev pub ascii_limit : ℕ
+ascii_limit = 128
 
 -- `ascii_table`: 128 yes-or-no entries, filled from the characters of a string
 unfoldable pub ascii_table : List ℕ → List Bool

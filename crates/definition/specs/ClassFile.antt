@@ -1,13 +1,16 @@
--- The class file of document 01, "FStarC.Parser.Unicode.fst": its layout, the class check, which range of a class holds a character
--- (document 02, K6), and the six tests that this gives. What lexes asks these tests and reads no byte of the file.
+-- The class file of document 01, "FStarC.Parser.Unicode.fst": its layout, the class check, and the six tests that it gives.
+-- Everything above reads these tests and no byte of the file.
 use Rattle.std.specs.Prelude.{ℕ, zero, suc, ◌+◌, ◌*◌, Bool, true, false, ◌&&◌, ◌||◌, List, [], ◌∷◌, ltb, leb, eqb, length, get_or, drop}
-use Rattle.definition.specs.Basics.{Bytes, ascii_limit, between}
-use Rattle.definition.specs.declared.Held.{Held}
-use Rattle.definition.specs.declared.Held.TheVariants.{By, ByNone}
+use Rattle.definition.specs.Basics.{Bytes, between}
 
 -- a range: its first and its last code point
 abbrev pub Range : Type 0
 Range = ℕ × ℕ
+
+-- c is in one of the ranges
+unfoldable pub in_ranges : List Range → ℕ → Bool
+in_ranges [] c = false
+in_ranges (r ∷ rs) c = elim (between r.0 r.1 c) [ true ↦ true | false ↦ in_ranges rs c ]
 
 -- ---- the layout
 
@@ -83,46 +86,22 @@ class_check f =
       ]
     ]
 
--- ---- which range holds a character
-
--- the first range of a list that has c among its code points
-unfoldable pub holding : List Range → ℕ → Held
-holding [] c = ByNone
-holding (r ∷ rs) c = elim (between r.0 r.1 c) [ true ↦ By r.0 r.1 | false ↦ holding rs c ]
-
--- document 02, K6: "the first and last code point of the range that holds the character, or that none does"; "An ASCII character answers
--- none here". (The source's `mem` is the yes or no of `holding`, and looks ASCII up too: crates/chars/specs/Source.antt.)
-unfoldable pub held : List Range → ℕ → Held
-held rs c = elim (ltb c ascii_limit) [ true ↦ ByNone | false ↦ holding rs c ]
-
--- whether a range does
-abbrev pub is_held : Held → Bool
-is_held (By first last) = true
-is_held ByNone = false
-
--- one of the ranges holds c
-abbrev pub in_one_of : List Range → ℕ → Bool
-in_one_of rs c = is_held (held rs c)
-
--- ---- the tests, the classes in the file's order: a character is in a class where one of its ranges holds it
-
-unfoldable pub in_class : Bytes → ℕ → ℕ → Bool
-in_class f k c = in_one_of (ranges_of f k) c
+-- ---- the tests, the classes in the file's order
 
 unfoldable pub is_lu : Bytes → ℕ → Bool
-is_lu f c = in_class f 0 c
+is_lu f c = in_ranges (ranges_of f 0) c
 
 unfoldable pub is_lt : Bytes → ℕ → Bool
-is_lt f c = in_class f 1 c
+is_lt f c = in_ranges (ranges_of f 1) c
 
 unfoldable pub is_lo : Bytes → ℕ → Bool
-is_lo f c = in_class f 2 c
+is_lo f c = in_ranges (ranges_of f 2) c
 
 unfoldable pub is_lm : Bytes → ℕ → Bool
-is_lm f c = in_class f 3 c
+is_lm f c = in_ranges (ranges_of f 3) c
 
 unfoldable pub is_zs : Bytes → ℕ → Bool
-is_zs f c = in_class f 4 c
+is_zs f c = in_ranges (ranges_of f 4) c
 
 unfoldable pub is_sm : Bytes → ℕ → Bool
-is_sm f c = in_class f 5 c
+is_sm f c = in_ranges (ranges_of f 5) c

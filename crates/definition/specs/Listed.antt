@@ -8,6 +8,7 @@ use Rattle.definition.specs.Basics.{loop, mem_cp, same}
 use Rattle.definition.specs.Utf8.{encode, encode_all, tail_bits, two, three_bytes, three, four_bytes, four, sequence, sequence_at}
 use Rattle.definition.specs.Text.{char_has, byte_has, star, after, first_bad}
 use Rattle.definition.specs.ClassFile.{
+  in_ranges,
   little_endian,
   class_count,
   class_offset,
@@ -21,9 +22,6 @@ use Rattle.definition.specs.ClassFile.{
   ascending,
   ranges_right,
   class_check,
-  holding,
-  held,
-  in_class,
   is_lu,
   is_lt,
   is_lo,
@@ -131,9 +129,9 @@ unfoldable pub listed : Bytes → Bytes → List (List ℕ)
 unfolding
     read_back said
     loop mem_cp same encode encode_all tail_bits two three_bytes three four_bytes four sequence sequence_at char_has byte_has star first_bad
-    little_endian class_count class_offset counts_before class_start read_ranges ranges_of bad_class_length offsets_right laid_out
-    ascending ranges_right class_check holding held in_class is_lu is_lt is_lo is_lm is_zs is_sm ll_tbl is_ll is_digit is_hex
-    count_up ascii_table in_table is_op_char is_symbolchar is_lower is_ident_start is_constructor_start is_ident_char is_anywhite is_newline_char is_uoperator
+    in_ranges little_endian class_count class_offset counts_before class_start read_ranges ranges_of bad_class_length offsets_right laid_out
+    ascending ranges_right class_check is_lu is_lt is_lo is_lm is_zs is_sm ll_tbl is_ll is_digit is_hex count_up ascii_table in_table
+    is_op_char is_symbolchar is_lower is_ident_start is_constructor_start is_ident_char is_anywhite is_newline_char is_uoperator
     is_continuation weight_at count_chars col_by kind_names number_from kind cps find keywords constructors op_tokens uoperators
     early_literals kw_op_rules mixfix_rules later max_list one match_lit plus match_newline match_ident match_constructor match_escape
     match_char match_char_lit match_integer match_xinteger any_integer_ends match_int_suffix match_int_usuffix match_floatp skip_sign is_e

@@ -2,7 +2,7 @@
 use Rattle.std.specs.Prelude.{ℕ, ◌+◌, ◌-◌, ◌*◌, Bool, true, false, ◌||◌, List, [], ◌∷◌, ◌++◌, reverse, eqb}
 use Prim.Native.String.{String}
 use Rattle.definition.specs.Basics.{ch, codes, between, if◌then◌else◌}
-use Rattle.definition.specs.ClassFile.{Range, in_one_of}
+use Rattle.definition.specs.ClassFile.{Range, in_ranges}
 
 -- "Each table is a string of hexadecimal ranges lo-hi separated by commas." Here it stands in pieces, one a line
 unfoldable pub ll_ranges : List String
@@ -197,9 +197,9 @@ ll_tbl =
     (0x1d7aa, 0x1d7c2) ∷ (0x1d7c4, 0x1d7c9) ∷ (0x1d7cb, 0x1d7cb) ∷ (0x1df00, 0x1df09) ∷ (0x1df0b, 0x1df1e) ∷ (0x1df25, 0x1df2a) ∷
     (0x1e922, 0x1e943) ∷ []
 
--- `is_ll`, as the tests of the class file: "For the built-in letters the range is the built-in one" (document 02, K6)
+-- `is_ll`
 unfoldable pub is_ll : ℕ → Bool
-is_ll c = in_one_of ll_tbl c
+is_ll c = in_ranges ll_tbl c
 
 -- a table laid flat again, as the source has it
 unfoldable pub flat : List Range → List ℕ

@@ -4,9 +4,9 @@
 use Rattle.std.specs.Prelude.{ℕ, suc, ◌+◌, Bool, true, false, ◌||◌, List, [], ◌∷◌, ltb, leb, eqb}
 use Prim.Native.Char.{Char}
 use Prim.Native.String.{String}
-use Rattle.definition.specs.Basics.{Bytes, ch, codes, mem_cp, if◌then◌else◌, ascii_limit}
+use Rattle.definition.specs.Basics.{Bytes, ch, codes, mem_cp, if◌then◌else◌}
 use Rattle.definition.specs.Text.{char_has, star}
-use Rattle.definition.specs.Chars.{is_digit, is_anywhite, is_op_char, is_symbolchar, is_uoperator}
+use Rattle.definition.specs.Chars.{ascii_limit, is_digit, is_anywhite, is_op_char, is_symbolchar, is_uoperator}
 use Rattle.definition.specs.Tables.{cps, words_of, early_literals, kw_op_words, op_tokens, mixfix_rules}
 use Rattle.definition.specs.Matchers.{
   ◌then◌,

@@ -1,11 +1,10 @@
-// The types that all layers share, and their methods, most of them the lexing state's. What they mean stands in specs/, which is the
-// definition of the whole lexer. Proved: each method is the definition's, a change of the state or a test, and (in proofs/) the
+// The types that all layers share, and the methods of the lexing state. What they mean stands in specs/, which is the
+// definition of the whole lexer. Proved: each method is the definition's change of the state, and (in proofs/) the
 // definition computes document 01's cases. Assumed: nothing but what each method's `requires` says.
 pub mod errors; // errors.rt: the errors' numbers by name
 pub mod kinds; // kinds.rt: the numbers of kinds by name
 
 ghost use Rattle.std.specs.Prelude.{◌≡◌, ◌<◌, ◌≤◌};
-ghost use Rattle.definition.specs.ClassFile.{is_held};
 ghost use Rattle.definition.specs.State.{advance, new_line, deeper, open_comment, one_more_comment, close_level, close_last, close_comment, ended};
 
 // How many numbers a record has.
@@ -32,25 +31,6 @@ pub enum Letter {
 pub enum Octet {
     Byte(u8),
     Past,
-}
-
-// Which range of a class holds a character, by its first and its last code point, or that none does (document 02, K6).
-#[derive(Drop)]
-pub enum Held {
-    By(u32, u32),
-    ByNone,
-}
-
-impl Held {
-    // Whether a range does.
-    pub fn is_held(self) -> bool
-        ensures { result ≡ is_held self }
-    {
-        match self {
-            Held::By(_, _) => true,
-            Held::ByNone => false,
-        }
-    }
 }
 
 // The end of what a matcher found, or that it found nothing (-1 in the source).
@@ -233,13 +213,6 @@ pub struct RunAnswer {
     pub stop: u32,
     pub count: u32,
     pub state: State,
-}
-
-// The answer of `which_range` (document 02, K6): a refusal number with no range, or 0 with the range that holds the character, if one does.
-#[derive(Drop)]
-pub struct RangeAnswer {
-    pub refusal: u32,
-    pub held: Held,
 }
 
 // The second run's saved state (document 02, K2): document 01's nine numbers, whose columns count characters, and then the second columns,

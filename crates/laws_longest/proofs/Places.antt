@@ -11,11 +11,11 @@ use mathlib.Core.Logic.{◌⊎◌, inl, inr}
 use native.Mathlib.Omega.{arith}
 use lib.Dec.{eqb, leb}
 use borrow.Author.Tests.{eqb-true, le-leb, lt-leb}
-use Rattle.definition.specs.Basics.{Bytes, ch, codes, mem_cp, ascii_limit}
+use Rattle.definition.specs.Basics.{Bytes, ch, codes, mem_cp}
 use Rattle.definition.specs.Utf8.{sequence_at}
 use Rattle.definition.specs.Text.{char_has}
 use Rattle.definition.specs.ClassFile.{is_zs}
-use Rattle.definition.specs.Chars.{count_up, ascii_table, in_table, is_digit, is_hex, is_op_char, is_symbolchar, is_ident_char, is_anywhite, is_newline_char, is_uoperator}
+use Rattle.definition.specs.Chars.{ascii_limit, count_up, ascii_table, in_table, is_digit, is_hex, is_op_char, is_symbolchar, is_ident_char, is_anywhite, is_newline_char, is_uoperator}
 use Rattle.definition.specs.Tables.{cps, early_literals, kw_op_rules, op_tokens, mixfix_rules, words_of, kw_op_words}
 use Rattle.definition.specs.Matchers.{later, only, max_list, match_lit, any_integer_ends, match_int_suffix, match_int_usuffix, match_real, match_bad_number, plus, match_newline}
 use Rattle.definition.specs.Select.{found, one_of_then_symbols, lit_then_symbols, places}

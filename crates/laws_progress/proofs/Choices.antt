@@ -8,9 +8,9 @@ use mathlib.Core.Bool.{Bool, true, false, not, ◌||◌, false≢true}
 use mathlib.Core.List.{List, [], ◌∷◌}
 use native.Mathlib.Omega.{arith}
 use lib.Dec.{ltb, leb, eqb}
-use Rattle.definition.specs.Basics.{Bytes, ch, codes, mem_cp, ascii_limit}
+use Rattle.definition.specs.Basics.{Bytes, ch, codes, mem_cp}
 use Rattle.definition.specs.Text.{char_has}
-use Rattle.definition.specs.Chars.{is_digit, is_anywhite, is_op_char, is_symbolchar, is_uoperator}
+use Rattle.definition.specs.Chars.{ascii_limit, is_digit, is_anywhite, is_op_char, is_symbolchar, is_uoperator}
 use Rattle.definition.specs.Tables.{cps, early_literals, kw_op_rules, op_tokens, mixfix_rules, words_of, kw_op_words}
 use Rattle.definition.specs.Matchers.{◌then◌, only, match_lit, plus, match_int_suffix, match_int_usuffix}
 use Rattle.definition.specs.Select.{none_at, keep, found, try_words, try_all, one_of_then_symbols, lit_then_symbols, places, select}

@@ -1,7 +1,7 @@
 -- How long the bytes are that payloads are made of: parts of the text, texts of tables, cleaned numbers, numbers in decimal, and trimmed
 -- comments. Rests on the laws of decimal numbers (crate `number_value`).
-use Prim.Native.Nat.{ℕ, zero, suc, ◌+◌, ◌-◌, ◌≤◌, ◌<◌}
-use mathlib.Core.Path.{◌≡◌, refl, subst}
+use Prim.Native.Nat.{ℕ, zero, suc, ◌+◌, ◌-◌, ◌*◌, ◌/◌, ◌%◌, ◌≤◌, ◌<◌}
+use mathlib.Core.Path.{◌≡◌, refl, ap, subst}
 use mathlib.Core.Bool.{Bool, true, ◌&&◌}
 use mathlib.Core.List.{List, [], ◌∷◌, map}
 use mathlib.Core.Option.{Option, some}
@@ -15,8 +15,8 @@ use Rattle.definition.specs.Text.{lexeme}
 use Rattle.definition.specs.Tables.{Entry, cps, find, entry}
 use Rattle.definition.specs.Numbers.{strips, strip_left, strip_if_last, strip_right, clean_number, show}
 use Rattle.definition.specs.Trim.{onto_first, split_lines, join_lines, trim_width, maybe_trim_lines}
-use Rattle.lemmas.proofs.Cases.{by_test, by_if, both}
-use Rattle.number_value.proofs.Digits.{decimal, few_digits}
+use Rattle.lemmas.proofs.Cases.{by_test, by_if, by_order, both}
+use Rattle.number_value.proofs.Digits.{show_last, show_more}
 
 -- ---- parts of the text
 
@@ -78,9 +78,23 @@ pub clean_size : (l : Bytes) → length (clean_number l) ≤ length l
 unfolding clean_number
 clean_size l = omega (arith, right_size (strip_left l), left_size l)
 
+-- 1 with k zeros
+abbrev tens : ℕ → ℕ
+tens zero = 1
+tens (suc k) = 10 * tens k
+
+-- a number below that has at most k digits
+digits : (k n : ℕ) → n < tens (suc k) → length (show n) ≤ suc k
+digits zero n h = omega (arith, ap length (show_last n h))
+digits (suc k) n h =
+    by_order n 10
+    (λ l. omega (arith, ap length (show_last n l)))
+    (λ l. let d : n / 10 < tens (suc k) = omega arith in
+    omega (arith, digits k (n / 10) d, ap length (show_more n l), length-append (show (n / 10)) ((48 + n % 10) ∷ [])))
+
 -- a line's number
 pub line_size : (n : ℕ) → n < 10000000 → length (show n) ≤ 7
-line_size n h = few_digits decimal 6 n h
+line_size n h = digits 6 n h
 
 -- ---- comments: with a byte for each line's end, the lines of a text are as long as the text and one byte
 

@@ -1,7 +1,7 @@
 // Document 01's three operations, on numbers and lent buffers: `start`, `class_check` and `run`. A program that lexes calls
-// these three and needs no other crate of the lexer but `definition`, which has their types. Document 02's `which_range` asks about a
-// class file alone. (`start`, `class_check` and `which_range` are those of crates `state`, `class_file` and `class_ranges`. Of a run, tokens
-// that follow one another are written by `fast_path::write_tokens`, what that leaves by `run_turn::turn`.)
+// these three and needs no other crate of the lexer but `definition`, which has their types. (`start` and `class_check` are those of
+// crates `state` and `class_file`. Of a run, tokens that follow one another are written by `fast_path::write_tokens`, what that leaves by
+// `run_turn::turn`.)
 //
 // Proved: for every input each answers as the definition says, and `run` leaves both buffers so, refusals included. What `run` promises,
 // the three demands and document 02's K4, stands in specs/Promises.antt. Assumed: nothing.
@@ -11,12 +11,11 @@ ghost use Rattle.std.specs.Prelude.{◌≡◌};
 ghost use Rattle.definition.specs.State.{start};
 ghost use Rattle.definition.specs.ClassFile.{class_check};
 ghost use Rattle.definition.specs.Run.{run_items};
-ghost use Rattle.class_ranges.specs.WhichRange.{which_range, Speaks};
 ghost use Rattle.laws_run.specs.Accepted.{Accepted};
 ghost use Rattle.lexer.specs.Promises.{RefusedOrCounted, AsDefined, NoByteVanishes, LongestEverywhere};
 
 use chars::ascii::{op_char_table, symbolchar_table};
-use definition::{RangeAnswer, RunAnswer, StartAnswer, State};
+use definition::{RunAnswer, StartAnswer, State};
 use fast_path::write_tokens;
 use position::Cache;
 use reader::Cursor;
@@ -35,15 +34,6 @@ pub fn class_check(file: &[u8]) -> u32
     ensures { result ≡ class_check file.now }
 {
     class_file::check::class_check(file)
-}
-
-// Document 02's K6: the range of a class that holds the character c, or that none does; or a refusal of the class file, or of a class that
-// there isn't. 0 to 5 are the file's classes, in its order, 6 the built-in lowercase letters.
-pub fn which_range(file: &[u8], class: u32, c: u32) -> RangeAnswer
-    ensures outcome { result ≡ which_range file.now class c }
-    ensures speaks { Speaks file.now class c result }
-{
-    class_ranges::which_range(file, class, c)
 }
 
 // The items of a run that isn't refused: tokens as long as they follow one another, and then the item that stands ahead.

@@ -1,13 +1,13 @@
 -- Lines, written piece by piece: how long the pieces are, and what one piece more gives. Rests on the laws of buffers that are written
 -- over (crate `lemmas`) and of the digits of `show` (crate `number_value`).
-use Prim.Native.Nat.{ℕ, zero, suc, ◌+◌, ◌-◌, ◌*◌, ◌≤◌, ◌<◌}
-use mathlib.Core.Path.{◌≡◌, refl, sym, ap, ◌∙◌}
+use Prim.Native.Nat.{ℕ, zero, suc, ◌+◌, ◌-◌, ◌*◌, ◌/◌, ◌%◌, ◌≤◌, ◌<◌}
+use mathlib.Core.Path.{◌≡◌, refl, sym, ap, ap₂, ◌∙◌}
 use mathlib.Core.Bool.{Bool, true, ◌&&◌}
 use mathlib.Core.List.{List, [], ◌∷◌, ◌++◌, map, append_assoc, append-nil}
 use native.Mathlib.Nat.{not-suc-le-zero, le_of_suc-le-suc}
 use native.Mathlib.Omega.{arith}
 use lib.Dec.{leb}
-use lib.ListN.{length, get_or, take, drop, set}
+use lib.ListN.{length, get_or, take, drop, set, length-append, length-take, length-drop}
 use lib.Seq.{drop-drop}
 use borrow.Author.Tests.{leb-true}
 use borrow.Rule.Slice.PartMut.{mid_of, put_mid}
@@ -17,19 +17,34 @@ use Rattle.definition.specs.Tables.{cps}
 use Rattle.definition.specs.Kinds.{kind_names}
 use Rattle.definition.specs.Numbers.{show}
 use Rattle.definition.specs.Item.{record_size}
-use Rattle.lemmas.specs.Over.{Wrote}
-use Rattle.lemmas.proofs.Cases.{both}
-use Rattle.lemmas.proofs.Over.{stored}
-use Rattle.lemmas.proofs.Pieces.{wrote_more, wrote_last, FirstPieces, no_pieces, pieces_length, piece_more}
-use Rattle.number_value.proofs.Digits.{decimal, few_digits}
+use Rattle.lemmas.specs.Over.{over, Wrote}
+use Rattle.lemmas.proofs.Cases.{by_order, both}
+use Rattle.lemmas.proofs.Over.{length_over, stored}
+use Rattle.lemmas.proofs.Copies.{write_on}
+use Rattle.lemmas.proofs.Tails.{written_after}
+use Rattle.number_value.proofs.Digits.{show_last, show_more}
 use Rattle.listing_lines.specs.Line.{letter, names, name_of, shown, numbers, head, line, lines}
 use Rattle.listing_lines.specs.Writing.{line_most}
 
 -- ---- lengths
 
+-- 1 with k zeros
+abbrev tens : ℕ → ℕ
+tens zero = 1
+tens (suc k) = 10 * tens k
+
+-- a number below that has at most k digits
+digits : (k n : ℕ) → n < tens (suc k) → length (show n) ≤ suc k
+digits zero n h = omega (arith, ap length (show_last n h))
+digits (suc k) n h =
+    by_order n 10
+    (λ l. omega (arith, ap length (show_last n l)))
+    (λ l. let d : n / 10 < tens (suc k) = omega arith in
+    omega (arith, digits k (n / 10) d, ap length (show_more n l), length-append (show (n / 10)) ((48 + n % 10) ∷ [])))
+
 -- a word of a record has at most 10
 pub word_size : (n : ℕ) → n < 4294967296 → length (show n) ≤ 10
-word_size n h = few_digits decimal 9 n (omega arith)
+word_size n h = digits 9 n (omega arith)
 
 -- no text of a list is longer than n
 abbrev all_within : ℕ → List Bytes → Bool
@@ -67,7 +82,38 @@ pub name_missing : (kind : ℕ) → 174 ≤ kind → get_or names 0 [] ≡ name_
 unfolding name_of names kind_names
 name_missing kind h = sym (get_d_past names kind (cps "-") h)
 
+-- ---- one piece after another
+
+pub wrote_more : {a b l now tail : List ℕ} {at n : ℕ} → Wrote a l now at → Wrote b (mid_of at (length now - at) now) tail n
+    → Wrote (a ++ b) l (put_mid at (length now - at) now tail) (at + n)
+wrote_more {a} {b} {l} {now} {tail} {at} u w = record {
+  all = ap₂ (λ (x y : ℕ). x + y) u.all w.all ∙ sym (length-append a b);
+  bytes = written_after l now tail a b at u.bytes u.all w.bytes;
+}
+
+pub wrote_length : {a l now : List ℕ} {at : ℕ} → Wrote a l now at → at ≤ length l → length now ≡ length l
+wrote_length {a} {l} u h = ap length u.bytes ∙ length_over a l (omega (arith, u.all))
+
+-- what was written lies in the buffer
+pub wrote_within : {a l now : List ℕ} {at : ℕ} → Wrote a l now at → at ≤ length now
+unfolding over
+wrote_within {a} {l} u = omega (arith, u.all, ap length u.bytes, length-append a (drop (length a) l))
+
+-- what is lent of a buffer from `at` on
+pub tail_size : (l : List ℕ) (at : ℕ) → length (mid_of at (length l - at) l) ≡ length l - at
+tail_size l at = simp (length-take, length-drop) (omega arith)
+
+pub wrote_none : (l : List ℕ) → Wrote [] l l 0
+unfolding over
+wrote_none l = record { all = refl; bytes = refl }
+
 -- ---- the numbers of a line
+
+-- a blank, and the digits after it
+pub number_wrote : {l tail : List ℕ} {n : ℕ} (m : ℕ) → 1 ≤ length l
+    → Wrote (show m) (mid_of 1 (length (set l 0 (ch " ")) - 1) (set l 0 (ch " "))) tail n
+    → Wrote (ch " " ∷ show m) l (put_mid 1 (length (set l 0 (ch " ")) - 1) (set l 0 (ch " ")) tail) (1 + n)
+number_wrote {l} m h w = wrote_more (stored (ch " " ∷ []) (ch " " ∷ []) l refl h) w
 
 -- one number more
 numbers_on : (f : ℕ → ℕ) (is : List ℕ) (k : ℕ) → k < length is
@@ -92,33 +138,37 @@ below_at n (i ∷ is) e (suc k) h = below_at n is (both (leb (suc i) n) (all_bel
 pub shown_below : (k : ℕ) → get_or shown k 0 < record_size
 shown_below k = below_at record_size shown refl k (omega arith)
 
--- the first k of the numbers
-abbrev first_numbers : List ℕ → ℕ → Bytes
-first_numbers ws k = numbers (map (λ i. get_or ws i 0) (take k shown))
-
--- they are written
+-- the first k of the numbers are written
 pub record Numbered (ws before : List ℕ) (at k : ℕ) (after : List ℕ) : Type 0 where
   pub room : 77 ≤ length before
   pub few : k ≤ 7
-  pub pieces : FirstPieces (first_numbers ws) 11 before at k after
+  pub short : at ≤ 11 * k
+  pub wrote : Wrote (numbers (map (λ i. get_or ws i 0) (take k shown))) before after at
 
 pub numbered_starts : (ws l : List ℕ) → 77 ≤ length l → Numbered ws l 0 0 l
 unfolding numbers
-numbered_starts ws l h = record { room = h; few = omega arith; pieces = no_pieces (first_numbers ws) 11 l refl }
+numbered_starts ws l h = record { room = h; few = omega arith; short = omega arith; wrote = wrote_none l }
 
 module _ {ws l now : List ℕ} {at k : ℕ} (g : Numbered ws l at k now) where
   pub numbered_length : length now ≡ length l
-  numbered_length = pieces_length g.pieces (omega (arith, g.room, g.few))
+  numbered_length = wrote_length g.wrote (omega (arith, g.room, g.few, g.short))
 
   pub numbered_on : {tail : List ℕ} {n : ℕ} → k < 7
       → Wrote (ch " " ∷ show (get_or ws (get_or shown k 0) 0)) (mid_of at (length now - at) now) tail n × (n ≤ 11)
       → Numbered ws l (at + n) (k + 1) (put_mid at (length now - at) now tail)
-  numbered_on h w = record { room = g.room; few = omega arith; pieces = piece_more g.pieces (sym (numbers_on (λ i. get_or ws i 0) shown k h)) w }
+  numbered_on {tail} {n} h (w, m) =
+      let q : suc k ≡ k + 1 = omega arith in
+      record {
+        room = g.room;
+        few = omega arith;
+        short = omega (arith, g.short);
+        wrote = rw (← q, ← numbers_on (λ i. get_or ws i 0) shown k h) (wrote_more g.wrote w);
+      }
 
   pub numbered_ends : 7 ≤ k → Wrote (numbers (map (λ i. get_or ws i 0) shown)) l now at × (at ≤ 77)
   numbered_ends h =
       let e : k ≡ 7 = omega (arith, g.few) in
-      (rw e at g.pieces.wrote, omega (arith, g.pieces.short))
+      (rw e at g.wrote, omega (arith, g.short))
 
 -- ---- a line
 
@@ -134,7 +184,17 @@ head_wrote {l} ws x e h w =
 pub line_wrote : {l now : List ℕ} {at : ℕ} (ws : List ℕ) → Wrote (head ws ++ numbers (map (λ i. get_or ws i 0) shown)) l now at → at < length l
     → Wrote (line ws) l (set now at (ch "\n")) (at + 1)
 unfolding line
-line_wrote ws u h = rw (← append_assoc (head ws) (numbers (map (λ i. get_or ws i 0) shown)) (ch "\n" ∷ [])) (wrote_last (ch "\n") u h)
+line_wrote {l} {now} {at} ws u h =
+    let ns = numbers (map (λ i. get_or ws i 0) shown) in
+    let a = head ws ++ ns in
+    let p : a ++ (ch "\n" ∷ []) ≡ line ws = append_assoc (head ws) ns (ch "\n" ∷ []) in
+    record {
+      all = omega (arith, u.all, length-append a (ch "\n" ∷ []), ap length p);
+      bytes =
+          ap₂ (λ (m : Bytes) (i : ℕ). set m i (ch "\n")) u.bytes u.all
+          ∙ write_on a l (ch "\n") (omega (arith, u.all))
+          ∙ ap (λ (b : Bytes). over b l) p;
+    }
 
 -- ---- lines
 
@@ -155,14 +215,24 @@ pub record_at : (k : ℕ) (rs : List ℕ) → take ((record_size * k + record_si
 record_at k rs = let e : (record_size * k + record_size) - record_size * k ≡ record_size = omega arith in rw e
 
 -- the lines of the first k records are written
-abbrev pub Lined : List ℕ → List ℕ → ℕ → ℕ → List ℕ → Type 0
-Lined rs before at k after = FirstPieces (λ n. lines n rs) line_most before at k after
+pub record Lined (rs before : List ℕ) (at k : ℕ) (after : List ℕ) : Type 0 where
+  pub short : at ≤ line_most * k
+  pub wrote : Wrote (lines k rs) before after at
 
 pub lined_starts : (rs l : List ℕ) → Lined rs l 0 0 l
 unfolding lines
-lined_starts rs l = no_pieces (λ n. lines n rs) line_most l refl
+lined_starts rs l = record { short = omega arith; wrote = wrote_none l }
 
-pub lined_on : (rs : List ℕ) {l now tail ws : List ℕ} {at k n : ℕ} → Lined rs l at k now → ws ≡ take record_size (drop (record_size * k) rs)
-    → Wrote (line ws) (mid_of at (length now - at) now) tail n × (n ≤ line_most)
-    → Lined rs l (at + n) (k + 1) (put_mid at (length now - at) now tail)
-lined_on rs {k = k} g e w = piece_more g (rw e (sym (lines_on k rs))) w
+module _ {rs l now : List ℕ} {at k : ℕ} (g : Lined rs l at k now) where
+  pub lined_length : line_most * k ≤ length l → length now ≡ length l
+  lined_length h = wrote_length g.wrote (omega (arith, g.short))
+
+  pub lined_on : {tail ws : List ℕ} {n : ℕ} → ws ≡ take record_size (drop (record_size * k) rs)
+      → Wrote (line ws) (mid_of at (length now - at) now) tail n × (n ≤ line_most)
+      → Lined rs l (at + n) (k + 1) (put_mid at (length now - at) now tail)
+  lined_on {tail} {ws} {n} e (w, m) =
+      let q : suc k ≡ k + 1 = omega arith in
+      record {
+        short = omega (arith, g.short);
+        wrote = rw (← q, ← lines_on k rs, ← e) (wrote_more g.wrote w);
+      }

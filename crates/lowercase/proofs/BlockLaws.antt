@@ -8,12 +8,10 @@ use native.Mathlib.Omega.{arith}
 use native.Mathlib.Nat.{add-zero, add-suc, suc-add, pow-succ', div-div-eq-div-mul}
 use lib.Dec.{ltb, eqb}
 use borrow.Author.Tests.{ltb-true}
-use Rattle.definition.specs.Basics.{ascii_limit, between}
-use Rattle.definition.specs.ClassFile.{Range, holding, held, is_held, in_one_of}
+use Rattle.definition.specs.Basics.{between}
+use Rattle.definition.specs.ClassFile.{Range, in_ranges}
 use Rattle.definition.specs.Lowercase.{ll_tbl, is_ll}
-use Rattle.definition.specs.declared.Held.{Held}
-use Rattle.definition.specs.declared.Held.TheVariants.{By, ByNone}
-use Rattle.lemmas.proofs.Cases.{by_test, by_lt, either}
+use Rattle.lemmas.proofs.Cases.{by_test, either}
 use Rattle.class_file.proofs.SearchLaws.{between_cases}
 use Rattle.lowercase.specs.Blocks.{as_bit, letters, Tells}
 use Rattle.lowercase.specs.declared.blocks.Block.{Block}
@@ -70,15 +68,15 @@ near a b [] = []
 near a b (r ∷ rs) = elim (ltb r.1 a || ltb b r.0) [ true ↦ near a b rs | false ↦ r ∷ near a b rs ]
 
 -- Of these code points no other range of the list holds any.
-near_same : (a b c : ℕ) (rs : List Range) → a ≤ c → c ≤ b → holding (near a b rs) c ≡ holding rs c
-unfolding holding
+near_same : (a b c : ℕ) (rs : List Range) → a ≤ c → c ≤ b → in_ranges (near a b rs) c ≡ in_ranges rs c
+unfolding in_ranges
 near_same a b c [] l h = refl
 near_same a b c (r ∷ rs) l h =
     let same = near_same a b c rs l h in
-    by_test (λ (met : List Range). holding met c ≡ holding (r ∷ rs) c) (ltb r.1 a || ltb b r.0)
+    by_test (λ (met : List Range). in_ranges met c ≡ in_ranges (r ∷ rs) c) (ltb r.1 a || ltb b r.0)
     (λ far.
     same
-    ∙ between_cases r.0 r.1 c (λ (inside : Bool). holding rs c ≡ elim inside [ true ↦ By r.0 r.1 | false ↦ holding rs c ])
+    ∙ between_cases r.0 r.1 c (λ (held : Bool). in_ranges rs c ≡ elim held [ true ↦ true | false ↦ in_ranges rs c ])
     (λ from to.
     either (ltb r.1 a) (ltb b r.0)
     (λ e. absurd (omega (arith, ltb-true r.1 a e)))
@@ -86,7 +84,7 @@ near_same a b c (r ∷ rs) l h =
     far)
     (λ _. refl)
     (λ _. refl))
-    (λ _. ap (λ (rest : Held). elim (between r.0 r.1 c) [ true ↦ By r.0 r.1 | false ↦ rest ]) same)
+    (λ _. ap (λ (held : Bool). elim (between r.0 r.1 c) [ true ↦ true | false ↦ held ]) same)
 
 -- Two tests that agree on n code points from c on have the same bits there.
 agreeing : (t u : ℕ → Bool) (n c : ℕ) → ((j : ℕ) → c ≤ j → j < c + n → t j ≡ u j) → letters t n c ≡ letters u n c
@@ -95,29 +93,22 @@ agreeing t u zero c e = refl
 agreeing t u (suc n) c e = rw (e c (omega arith) (omega arith), agreeing t u n (suc c) (λ j l h. e j (omega arith) (omega arith)))
 
 -- So the bits of a block are told by the ranges that meet it, or that meet any of the blocks from `low` to `high` that it is one of.
-near_tells : (low high k : ℕ) → low ≤ k → k ≤ high → letters (in_one_of (near (64 * low) (64 * high + 63) ll_tbl)) 64 (64 * k) ≡ letters is_ll 64 (64 * k)
-unfolding is_ll held
+near_tells : (low high k : ℕ) → low ≤ k → k ≤ high → letters (in_ranges (near (64 * low) (64 * high + 63) ll_tbl)) 64 (64 * k) ≡ letters is_ll 64 (64 * k)
+unfolding is_ll
 near_tells low high k l h =
-    agreeing (in_one_of (near (64 * low) (64 * high + 63) ll_tbl)) (in_one_of ll_tbl) 64 (64 * k)
-    (λ j from to.
-    ap (λ (found : Held). is_held (elim (ltb j ascii_limit) [ true ↦ ByNone | false ↦ found ]))
-    (near_same (64 * low) (64 * high + 63) j ll_tbl (omega arith) (omega arith)))
+    agreeing (in_ranges (near (64 * low) (64 * high + 63) ll_tbl)) (in_ranges ll_tbl) 64 (64 * k)
+    (λ j from to. near_same (64 * low) (64 * high + 63) j ll_tbl (omega arith) (omega arith))
 
 -- A number that has them has the letters of the block.
-pub computed : (k : ℕ) {w : ℕ} → w ≡ letters (in_one_of (near (64 * k) (64 * k + 63) ll_tbl)) 64 (64 * k) → w ≡ letters is_ll 64 (64 * k)
+pub computed : (k : ℕ) {w : ℕ} → w ≡ letters (in_ranges (near (64 * k) (64 * k + 63) ll_tbl)) 64 (64 * k) → w ≡ letters is_ll 64 (64 * k)
 computed k e = e ∙ near_tells k k k (omega arith) (omega arith)
 
--- No range of none holds a character.
-held_by_none : (c : ℕ) → held [] c ≡ ByNone
-unfolding held holding
-held_by_none c = by_lt (λ (found : Held). found ≡ ByNone) c ascii_limit (λ _. refl) (λ _. refl)
-
--- So where no range is there, no bit is set.
-no_bits : (n c : ℕ) → letters (in_one_of []) n c ≡ 0
-unfolding letters
+-- Where no range is there, no bit is set.
+no_bits : (n c : ℕ) → letters (in_ranges []) n c ≡ 0
+unfolding letters in_ranges
 no_bits zero c = refl
-no_bits (suc n) c = rw (held_by_none c, no_bits n (suc c))
+no_bits (suc n) c = rw (no_bits n (suc c))
 
 -- The blocks from `low` to `high` have no letters where no range of the table meets them.
 pub empty_block : (low high k : ℕ) → near (64 * low) (64 * high + 63) ll_tbl ≡ [] → low ≤ k → k ≤ high → 0 ≡ letters is_ll 64 (64 * k)
-empty_block low high k e l h = sym (no_bits 64 (64 * k)) ∙ ap (λ (rs : List Range). letters (in_one_of rs) 64 (64 * k)) (sym e) ∙ near_tells low high k l h
+empty_block low high k e l h = sym (no_bits 64 (64 * k)) ∙ ap (λ (rs : List Range). letters (in_ranges rs) 64 (64 * k)) (sym e) ∙ near_tells low high k l h

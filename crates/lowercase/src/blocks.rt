@@ -23,14 +23,14 @@ fn without_letters(k: u32) -> Block
     }
 }
 
-// What is told of the code points from 64 * k on. The first two arms are ASCII, which is not looked up; those up to 22 are Latin, Greek,
-// Cyrillic and Armenian, those from 132 on letterlike symbols, number forms and arrows.
+// What is told of the code points from 64 * k on. The arms up to 22 are Latin, Greek, Cyrillic and Armenian, those from 132 on
+// letterlike symbols, number forms and arrows.
 pub fn block_letters(k: u32) -> Block
     ensures { Tells k result }
 {
     match k {
         0 => Block::Letters(0),
-        1 => Block::Letters(0),
+        1 => Block::Letters(0x07fffffe00000000),
         2 => Block::Letters(0x0020000000000000),
         3 => Block::Letters(0xff7fffff80000000),
         4 => Block::Letters(0x55aaaaaaaaaaaaaa),

@@ -2,7 +2,7 @@
 -- nothing but the definition.
 use Prim.Native.Nat.{ℕ, ◌+◌, ◌-◌, ◌*◌, ◌≤◌, ◌<◌}
 use mathlib.Core.Path.{◌≡◌, refl, sym, ap, ◌∙◌}
-use mathlib.Core.Bool.{Bool, true, false, ◌||◌, and-false}
+use mathlib.Core.Bool.{Bool, true, false, ◌||◌}
 use mathlib.Core.List.{[], ◌∷◌}
 use mathlib.Core.Logic.{⊎_elim, inl, inr}
 use native.Mathlib.Nat.{mul-le-mul, mul-le-mul_left}
@@ -14,9 +14,8 @@ use lib.ListN.{length, get_or, drop, drop_of_length-le}
 use lib.Seq.{drop-cons}
 use borrow.Author.Tests.{lt-ltb, le-ltb, lt-leb, eq-eqb, ne_eqb}
 use Rattle.definition.specs.Basics.{Bytes, ch, between, if◌then◌else◌}
-use Rattle.definition.specs.Chars.{is_digit, is_hex}
 use Rattle.definition.specs.Numbers.{digit_value, value_from, base_of, after_zero, int_of_string}
-use Rattle.lemmas.proofs.Cases.{by_order, between_true, either}
+use Rattle.lemmas.proofs.Cases.{by_order}
 use Rattle.number_value.specs.NumeralContracts.{Base}
 
 -- ---- bases
@@ -110,34 +109,12 @@ digit_below b h =
     let k : b < 97 = omega arith in
     simp (digit_value, lt-leb 48 b h, lt-leb 97 b k) (omega arith)
 
--- A hexadecimal digit adds less than 16.
-pub hex_digit_small : (b : ℕ) → is_hex b ≡ true → digit_value b < 16
-unfolding is_hex is_digit digit_value
-hex_digit_small b h =
-    either (between (ch "0") (ch "9") b) (between (ch "A") (ch "F") b || between (ch "a") (ch "f") b)
-    (λ e. let r = between_true 48 57 b e in rw (digit_value, e) (omega arith))
-    (either (between (ch "A") (ch "F") b) (between (ch "a") (ch "f") b)
-    (λ e. let r = between_true 65 70 b e in simp (digit_value, lt-leb b 57 (omega arith), lt-leb 97 b (omega arith), and-false) (omega arith))
-    (λ e. let r = between_true 97 102 b e in simp (digit_value, lt-leb b 57 (omega arith), and-false, e) (omega arith)))
-    h
-
 -- Digits never make a value smaller.
 value_grows : (base n : ℕ) (l : Bytes) → 1 ≤ base → n ≤ value_from base n l
 unfolding value_from
 value_grows base n [] h = omega arith
 value_grows base n (b ∷ l) h =
     omega (arith, mul-le-mul_left n h, value_grows base (n * base + digit_value b) l h)
-
--- One digit more.
-pub value_more : (base n : ℕ) (s : Bytes) (i : ℕ) → i < length s
-    → value_from base n (drop i s) ≡ value_from base (n * base + digit_value (get_or s i 0)) (drop (i + 1) s)
-unfolding value_from
-value_more base n s i h = rw add-one (ap (value_from base n) (drop-cons s i 0 h))
-
--- No digit is left.
-pub value_ends : (base n : ℕ) (s : Bytes) (i : ℕ) → length s ≤ i → value_from base n (drop i s) ≡ n
-unfolding value_from
-value_ends base n s i h = ap (value_from base n) (drop_of_length-le s h)
 
 -- A value of 255 at most, with a digit more, stays small.
 pub product_small : (n base : ℕ) → n ≤ 255 → Base base → n * base ≤ 4080
@@ -152,8 +129,10 @@ pub reading_starts : (s : Bytes) (from base : ℕ) → Reading s from base 0 fro
 reading_starts s from base = record { small = omega arith; same = refl }
 
 module _ {s : Bytes} {from base n i : ℕ} (r : Reading s from base n i) where
+  -- One digit more.
   digit_more : i < length s → value_from base (n * base + digit_value (get_or s i 0)) (drop (i + 1) s) ≡ value_from base 0 (drop from s)
-  digit_more h = sym (value_more base n s i h) ∙ r.same
+  unfolding value_from
+  digit_more h = rw add-one (ap (value_from base n) (sym (drop-cons s i 0 h)) ∙ r.same)
 
   pub reading_goes_on : i < length s → n * base + digit_value (get_or s i 0) ≤ 255 → Reading s from base (n * base + digit_value (get_or s i 0)) (i + 1)
   reading_goes_on h l = record { small = l; same = digit_more h }
@@ -168,8 +147,9 @@ module _ {s : Bytes} {from base n i : ℕ} (r : Reading s from base n i) where
 
   -- At the end the value is n.
   pub reading_ends : length s ≤ i → false ≡ ltb 255 (value_from base 0 (drop from s))
+  unfolding value_from
   reading_ends h =
       let v = value_from base 0 (drop from s) in
-      let e : n ≡ v = sym (value_ends base n s i h) ∙ r.same in
+      let e : n ≡ v = ap (value_from base n) (sym (drop_of_length-le s h)) ∙ r.same in
       let l = r.small in
       sym (le-ltb 255 v (omega arith))

@@ -1,3 +1,2 @@
 pub mod NumeralContracts
 pub mod CleaningContracts
-pub mod Hexadecimal

@@ -4,7 +4,6 @@
 // Assumed: nothing.
 pub mod cleaning; // cleaning.rt: what is left of a number without the letters of its prefixes and suffixes
 pub mod decimals; // decimals.rt: the decimal digits of a number
-pub mod hexadecimals; // hexadecimals.rt: its hexadecimal digits
 
 ghost use Rattle.std.specs.Prelude.{◌≡◌, ltb, drop};
 ghost use Rattle.definition.specs.Numbers.{digit_value, base_of, value_from, int_of_string};

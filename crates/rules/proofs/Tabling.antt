@@ -7,10 +7,10 @@ use mathlib.Core.Bool.{Bool, true, false, ◌||◌}
 use mathlib.Core.List.{List, [], ◌∷◌}
 use lib.Dec.{ltb, leb, eqb}
 use lib.ListN.{length}
-use Rattle.definition.specs.Basics.{Bytes, ch, ascii_limit}
+use Rattle.definition.specs.Basics.{Bytes, ch}
 use Rattle.definition.specs.Text.{char_has, star}
 use Rattle.definition.specs.Tables.{cps, early_literals, kw_op_rules, op_tokens, mixfix_rules, words_of, kw_op_words}
-use Rattle.definition.specs.Chars.{is_digit, is_anywhite, is_op_char, is_symbolchar, is_uoperator}
+use Rattle.definition.specs.Chars.{ascii_limit, is_digit, is_anywhite, is_op_char, is_symbolchar, is_uoperator}
 use Rattle.definition.specs.Matchers.{◌then◌, later, max_list, only, one, match_lit, plus, match_newline, match_ident, match_constructor, match_char_lit, any_integer_ends, match_int_suffix, match_int_usuffix, match_real, match_bad_number, match_backtick_ident}
 use Rattle.definition.specs.Select.{none_at, keep, found, try_words, try_all, one_of_then_symbols, lit_then_symbols, places, select}
 use Rattle.definition.specs.declared.Choice.{Choice}

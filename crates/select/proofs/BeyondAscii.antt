@@ -7,10 +7,10 @@ use mathlib.Core.List.{List, [], ◌∷◌}
 use native.Mathlib.Omega.{arith}
 use lib.Dec.{eqb, ltb, leb}
 use borrow.Author.Tests.{eqb-true, ne_eqb, lt-leb, le-leb, ltb-true}
-use Rattle.definition.specs.Basics.{Bytes, ch, mem_cp, ascii_limit}
+use Rattle.definition.specs.Basics.{Bytes, ch, mem_cp}
 use Rattle.definition.specs.Utf8.{sequence_at}
 use Rattle.definition.specs.Text.{char_has, byte_is, star}
-use Rattle.definition.specs.Chars.{is_digit, is_ident_start, is_constructor_start, is_ident_char, is_anywhite, is_newline_char, is_uoperator}
+use Rattle.definition.specs.Chars.{ascii_limit, is_digit, is_ident_start, is_constructor_start, is_ident_char, is_anywhite, is_newline_char, is_uoperator}
 use Rattle.definition.specs.Tables.{early_literals, kw_op_rules, op_tokens, mixfix_rules}
 use Rattle.definition.specs.Matchers.{◌then◌, only, one, plus, match_newline, match_ident, match_constructor}
 use Rattle.definition.specs.Select.{none_at, keep, found, places, try_all, select}

@@ -13,10 +13,10 @@ use lib.Dec.{ltb, leb, eqb}
 use lib.ListN.{length, get_or, drop}
 use lib.Seq.{get_or-drop}
 use borrow.Author.Tests.{lt-ltb, le-ltb, leb-false}
-use Rattle.definition.specs.Basics.{Bytes, ch, between, ascii_limit}
+use Rattle.definition.specs.Basics.{Bytes, ch, between}
 use Rattle.definition.specs.Utf8.{sequence_at}
 use Rattle.definition.specs.Text.{with_char, byte_has, star}
-use Rattle.definition.specs.Chars.{ascii_table, in_table, op_char_cps, symbolchar_cps, is_op_char, is_symbolchar, is_ident_char}
+use Rattle.definition.specs.Chars.{ascii_limit, ascii_table, in_table, op_char_cps, symbolchar_cps, is_op_char, is_symbolchar, is_ident_char}
 use Rattle.definition.specs.Matchers.{only, one, plus}
 use Rattle.definition.specs.declared.Sequence.{Sequence}
 use Rattle.definition.specs.contracts.Sequence.{the_type}

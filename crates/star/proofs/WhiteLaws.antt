@@ -5,8 +5,8 @@ use mathlib.Core.Path.{◌≡◌, refl}
 use mathlib.Core.Bool.{Bool, true, false, ◌||◌}
 use lib.Dec.{eqb, leb}
 use borrow.Author.Tests.{eqb-true, ne_eqb, lt-leb}
-use Rattle.definition.specs.Basics.{Bytes, ascii_limit}
-use Rattle.definition.specs.Chars.{is_anywhite}
+use Rattle.definition.specs.Basics.{Bytes}
+use Rattle.definition.specs.Chars.{ascii_limit, is_anywhite}
 use Rattle.definition.specs.ClassFile.{is_zs}
 use Rattle.lemmas.proofs.Cases.{either}
 use Rattle.star.specs.Blanks.{is_blank}

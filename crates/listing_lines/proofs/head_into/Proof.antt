@@ -1,8 +1,7 @@
 -- The letter and the blank are stored, and the name stands after them.
 use native.Mathlib.Omega.{arith}
 use lib.ListN.{length-set, length-take, length-drop, get_or}
-use Rattle.lemmas.proofs.Pieces.{wrote_length}
-use Rattle.listing_lines.proofs.LineLaws.{name_size, head_wrote}
+use Rattle.listing_lines.proofs.LineLaws.{name_size, wrote_length, head_wrote}
 use borrow.Author.Rules.{rules}
 use Rattle.listing_lines.proofs.head_into.Statement.{statement}
 use Rattle.listing_lines.proofs.head_into.Tie as tie

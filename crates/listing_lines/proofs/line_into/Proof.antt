@@ -1,8 +1,7 @@
 -- The numbers stand after the name, and the line feed after them.
 use native.Mathlib.Omega.{arith}
 use lib.ListN.{length-set}
-use Rattle.lemmas.proofs.Pieces.{wrote_more, wrote_length}
-use Rattle.listing_lines.proofs.LineLaws.{line_wrote}
+use Rattle.listing_lines.proofs.LineLaws.{wrote_more, wrote_length, line_wrote}
 use borrow.Author.Rules.{rules}
 use Rattle.listing_lines.proofs.line_into.Statement.{statement}
 use Rattle.listing_lines.proofs.line_into.Tie as tie

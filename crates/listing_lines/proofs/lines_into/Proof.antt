@@ -3,8 +3,7 @@ use Prim.Native.Nat.{◌-◌, ◌≤◌}
 use mathlib.Core.Path.{◌≡◌}
 use native.Mathlib.Omega.{arith}
 use lib.ListN.{length-take, length-drop}
-use Rattle.lemmas.proofs.Pieces.{tail_size, pieces_length}
-use Rattle.listing_lines.proofs.LineLaws.{Lined, lined_starts, lined_on, record_at}
+use Rattle.listing_lines.proofs.LineLaws.{tail_size, Lined, lined_starts, lined_length, lined_on, record_at}
 use borrow.Author.Rules.{rules}
 use Rattle.listing_lines.proofs.lines_into.Statement.{statement}
 use Rattle.listing_lines.proofs.lines_into.Tie as tie
@@ -40,13 +39,13 @@ sub-line-into-2 : tie.Need-overflow-sub-line-into-2 invariant-loop decreases-loo
 sub-line-into-2 c =
     let i = c.before.before.loop.invariant in
     let p = c.before.before.before.before.before.requires in
-    omega (arith, pieces_length i.0 (omega (arith, i.1, p.lines)), i.0.short, i.1, p.lines)
+    omega (arith, lined_length i.0 (omega (arith, i.1, p.lines)), i.0.short, i.1, p.lines)
 
 part-line-into-start-2 : tie.Need-slice-bounds-line-into-start-2 invariant-loop decreases-loop
 part-line-into-start-2 c =
     let i = c.before.before.loop.invariant in
     let p = c.before.before.before.before.before.requires in
-    omega (arith, pieces_length i.0 (omega (arith, i.1, p.lines)), i.0.short, i.1, p.lines)
+    omega (arith, lined_length i.0 (omega (arith, i.1, p.lines)), i.0.short, i.1, p.lines)
 
 part-line-into-end-2 : tie.Need-slice-bounds-line-into-end-2 invariant-loop decreases-loop
 part-line-into-end-2 c = search rules
@@ -57,7 +56,7 @@ line-into-requires c κs =
     let i = l.loop.invariant in
     let g = l.before.before.before in (
       simp (length-take, length-drop) (omega (arith, g.requires.records, c.before.before.loop_test.true)),
-      omega (arith, tail_size l.loop.out l.loop.at, pieces_length i.0 (omega (arith, i.1, g.requires.lines)), i.0.short, g.requires.lines, c.before.before.loop_test.true),
+      omega (arith, tail_size l.loop.out l.loop.at, lined_length i.0 (omega (arith, i.1, g.requires.lines)), i.0.short, g.requires.lines, c.before.before.loop_test.true),
     )
 
 add_at : tie.Need-overflow-add-at invariant-loop decreases-loop
@@ -74,10 +73,10 @@ loop-less c = omega arith
 loop-again : tie.Need-loop-preserved invariant-loop decreases-loop
 loop-again c =
     let l = c.before.before.before.before.before.before in
-    (lined_on _ l.loop.invariant.0 (record_at l.loop.k l.before.before.before.args.records.now) c.before.before.line_into.ensures, omega arith)
+    (lined_on l.loop.invariant.0 (record_at l.loop.k l.before.before.before.args.records.now) c.before.before.line_into.ensures, omega arith)
 
 same_length : tie.Need-same-length invariant-loop decreases-loop
-same_length c = pieces_length c.before.loop.invariant.0 (omega (arith, c.before.loop.invariant.1, c.before.before.before.before.requires.lines))
+same_length c = lined_length c.before.loop.invariant.0 (omega (arith, c.before.loop.invariant.1, c.before.before.before.before.requires.lines))
 
 returns : tie.Need-returns invariant-loop decreases-loop
 returns c =

@@ -1,9 +1,7 @@
 -- The blank is stored, and the digits stand after it.
 use native.Mathlib.Omega.{arith}
 use lib.ListN.{length-set, length-take, length-drop}
-use Rattle.definition.specs.Basics.{ch}
-use Rattle.lemmas.proofs.Pieces.{wrote_first, wrote_length}
-use Rattle.listing_lines.proofs.LineLaws.{word_size}
+use Rattle.listing_lines.proofs.LineLaws.{word_size, wrote_length, number_wrote}
 use borrow.Author.Rules.{rules}
 use Rattle.listing_lines.proofs.number_into.Statement.{statement}
 use Rattle.listing_lines.proofs.number_into.Tie as tie
@@ -33,14 +31,14 @@ add-result c =
 same_length : tie.Need-same-length
 same_length c =
     let g = c.before.before.before.before.before in
-    let w = wrote_first {l = g.args.out.now} (ch " ") (omega (arith, g.requires)) c.before.before.show_into.ensures in
+    let w = number_wrote {l = g.args.out.now} g.args.n (omega (arith, g.requires)) c.before.before.show_into.ensures in
     wrote_length w (omega (arith, w.all, g.requires, word_size g.args.n (omega arith)))
 
 returns : tie.Need-returns
 returns c =
     let g = c.before.before.before.before.before in
     let w = c.before.before.show_into.ensures in
-    (wrote_first (ch " ") (omega (arith, g.requires)) w, omega (arith, w.all, word_size g.args.n (omega arith)))
+    (number_wrote g.args.n (omega (arith, g.requires)) w, omega (arith, w.all, word_size g.args.n (omega arith)))
 
 pub number_into_spec : {M : Type 1} → statement M
 number_into_spec =

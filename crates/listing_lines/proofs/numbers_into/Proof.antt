@@ -1,8 +1,7 @@
 -- The invariant is `Numbered`: the first k numbers are written. The measure is how many are left.
 use Prim.Native.Nat.{◌-◌}
 use native.Mathlib.Omega.{arith}
-use Rattle.lemmas.proofs.Pieces.{tail_size}
-use Rattle.listing_lines.proofs.LineLaws.{shown_below, Numbered, numbered_starts, numbered_length, numbered_on, numbered_ends}
+use Rattle.listing_lines.proofs.LineLaws.{shown_below, tail_size, Numbered, numbered_starts, numbered_length, numbered_on, numbered_ends}
 use borrow.Author.Rules.{rules}
 use Rattle.listing_lines.proofs.numbers_into.Statement.{statement}
 use Rattle.listing_lines.proofs.numbers_into.Tie as tie
@@ -31,12 +30,12 @@ shared-slice-read-number-into c = omega (arith, shown_below c.before.before.loop
 sub-number-into : tie.Need-overflow-sub-number-into invariant-loop decreases-loop
 sub-number-into c =
     let i = c.before.before.loop.invariant in
-    omega (arith, numbered_length i, i.room, i.few, i.pieces.short)
+    omega (arith, numbered_length i, i.room, i.few, i.short)
 
 part-number-into-start : tie.Need-slice-bounds-number-into-start invariant-loop decreases-loop
 part-number-into-start c =
     let i = c.before.before.loop.invariant in
-    omega (arith, numbered_length i, i.room, i.few, i.pieces.short)
+    omega (arith, numbered_length i, i.room, i.few, i.short)
 
 part-number-into-end : tie.Need-slice-bounds-number-into-end invariant-loop decreases-loop
 part-number-into-end c = search rules
@@ -45,10 +44,10 @@ number-into-requires : tie.Need-number-into-requires invariant-loop decreases-lo
 number-into-requires c κs =
     let l = c.before.before.before in
     let i = l.loop.invariant in
-    omega (arith, tail_size l.loop.out l.loop.at, numbered_length i, i.room, i.pieces.short, c.before.before.loop_test.true)
+    omega (arith, tail_size l.loop.out l.loop.at, numbered_length i, i.room, i.short, c.before.before.loop_test.true)
 
 add_at : tie.Need-overflow-add-at invariant-loop decreases-loop
-add_at c = omega (arith, c.before.before.number_into.ensures.1, c.before.before.before.before.before.before.loop.invariant.pieces.short, c.before.before.before.before.before.before.loop.invariant.few)
+add_at c = omega (arith, c.before.before.number_into.ensures.1, c.before.before.before.before.before.before.loop.invariant.short, c.before.before.before.before.before.before.loop.invariant.few)
 
 add-k : tie.Need-overflow-add-k invariant-loop decreases-loop
 add-k c = omega arith

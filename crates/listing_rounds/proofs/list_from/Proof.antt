@@ -6,7 +6,7 @@ use Rattle.definition.specs.Utf8.{encode, encode_all}
 use Rattle.definition.specs.Tables.{cps}
 use Rattle.laws_run.specs.Left.{left}
 use Rattle.either_run.specs.Either.{first_of}
-use Rattle.lemmas.proofs.Pieces.{wrote_within}
+use Rattle.listing_lines.proofs.LineLaws.{wrote_within}
 use Rattle.listing_rounds.specs.Rounds.{Told}
 use Rattle.listing_rounds.proofs.RunsOn.{Going, going_starts, going_on, round_fewer, round_wrote, round_few, ends_refused, ends_all}
 use borrow.Author.Rules.{rules}

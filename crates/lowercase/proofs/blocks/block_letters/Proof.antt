@@ -1,7 +1,7 @@
 -- Each arm has the letters that the definition's table gives for its block, which antt computes.
 use mathlib.Core.Path.{refl}
 use borrow.Author.Rules.{rules}
-use Rattle.definition.specs.ClassFile.{holding, held}
+use Rattle.definition.specs.ClassFile.{in_ranges}
 use Rattle.definition.specs.Lowercase.{ll_tbl}
 use Rattle.lowercase.specs.Blocks.{letters}
 use Rattle.lowercase.proofs.BlockLaws.{computed}
@@ -12,7 +12,7 @@ returns-27 : tie.Need-returns-27
 returns-27 c = c.without_letters.ensures
 
 pub block_letters_spec : {M : Type 1} → statement M
-unfolding letters holding held ll_tbl
+unfolding letters in_ranges ll_tbl
 block_letters_spec =
     tie.close
     (tie.spec
