@@ -11,7 +11,7 @@ ghost use Rattle.class_file.specs.Search.{range_of, is_found};
 use crate::check::{class_count, class_start, number_at};
 
 // Which range of a list holds a code point.
-#[derive(Drop)]
+#[derive(Clone, Copy)]
 pub enum Found {
     At(usize),
     Nothing,

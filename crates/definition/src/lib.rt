@@ -12,7 +12,7 @@ pub const RECORD: usize = 18;
 
 // What stands at an offset of some bytes: a legal UTF-8 sequence, as its code point and its width in bytes;
 // bytes that no legal sequence starts; or the end.
-#[derive(Drop)]
+#[derive(Clone, Copy)]
 pub enum Sequence {
     Char(u32, usize),
     Bad,
@@ -21,20 +21,20 @@ pub enum Sequence {
 
 // The source's `get`, `byte` and `next` give -1 past the end; here the end is an answer of its own. (`Letter` is `get`'s, which only the
 // definition has: the code reads a character with its width, `Sequence`.)
-#[derive(Drop)]
+#[derive(Clone, Copy)]
 pub enum Letter {
     Code(u32),
     Past,
 }
 
-#[derive(Drop)]
+#[derive(Clone, Copy)]
 pub enum Octet {
     Byte(u8),
     Past,
 }
 
 // The end of what a matcher found, or that it found nothing (-1 in the source).
-#[derive(Drop)]
+#[derive(Clone, Copy)]
 pub enum Match {
     To(usize),
     Nothing,
@@ -42,7 +42,7 @@ pub enum Match {
 
 // What `select` chose at an offset: one of its 50 places, or 0 for none; the end of the part; and, where the place
 // is a table, which of its words (else 0).
-#[derive(Drop)]
+#[derive(Clone, Copy)]
 pub struct Choice {
     pub place: u32,
     pub end: usize,
@@ -50,7 +50,7 @@ pub struct Choice {
 }
 
 // A line and a column.
-#[derive(Drop)]
+#[derive(Clone, Copy)]
 pub struct Pos {
     pub line: u32,
     pub col: u32,
@@ -59,7 +59,7 @@ pub struct Pos {
 // The saved state: document 01's nine numbers, in its order. `bol` and `column` are the line-start offset and column
 // (the source's `bol` and `bol_col`), `comment` is the comment start. The mode is 0 between items, 1 in a comment,
 // 2 ended.
-#[derive(Drop)]
+#[derive(Clone, Copy)]
 pub struct State {
     pub offset: u32,
     pub line: u32,
@@ -174,7 +174,7 @@ impl State {
 }
 
 // What an item holds besides its kind, its range and its payload: the source's `extra`, and a comment's mark.
-#[derive(Drop)]
+#[derive(Clone, Copy)]
 pub enum Extra {
     NoExtra,
     CharLit(u32),
@@ -185,7 +185,7 @@ pub enum Extra {
 
 // An item without its payload's bytes. `length` is the payload's (of a blob: its name's), `comments` the comments so
 // far (of a comment: its own number). `from` and `to` are the start and end offset of the bytes that it was read from.
-#[derive(Drop)]
+#[derive(Clone, Copy)]
 pub struct Item {
     pub kind: u32,
     pub sp: Pos,
@@ -198,7 +198,7 @@ pub struct Item {
 }
 
 // Start's answer: a refusal number with a state of nine zeros, or 0 with the state.
-#[derive(Drop)]
+#[derive(Clone, Copy)]
 pub struct StartAnswer {
     pub refusal: u32,
     pub state: State,
@@ -206,7 +206,7 @@ pub struct StartAnswer {
 
 // Run's answer: a refusal number (and for refusal 8 the offset of the first byte where no legal sequence starts)
 // with the state given, or 0 with the stop, the count of whole items and the state after them.
-#[derive(Drop)]
+#[derive(Clone, Copy)]
 pub struct RunAnswer {
     pub refusal: u32,
     pub offset: u32,
@@ -217,7 +217,7 @@ pub struct RunAnswer {
 
 // The second run's saved state (document 02, K2): document 01's nine numbers, whose columns count characters, and then the second columns,
 // in UTF-16 units, of the line start and of the comment start.
-#[derive(Drop)]
+#[derive(Clone, Copy)]
 pub struct Utf16State {
     pub first: State,
     pub column: u32,
@@ -225,14 +225,14 @@ pub struct Utf16State {
 }
 
 // Its start's answer: a refusal number with a state of eleven zeros, or 0 with the state.
-#[derive(Drop)]
+#[derive(Clone, Copy)]
 pub struct Utf16StartAnswer {
     pub refusal: u32,
     pub state: Utf16State,
 }
 
 // Its run's answer, as the first run's.
-#[derive(Drop)]
+#[derive(Clone, Copy)]
 pub struct Utf16RunAnswer {
     pub refusal: u32,
     pub offset: u32,

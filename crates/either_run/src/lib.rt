@@ -9,14 +9,14 @@ ghost use Rattle.either_run.specs.Either.{either_run};
 use definition::{State, Utf16State};
 
 // The saved state of a run whose positions count characters, or UTF-16 units.
-#[derive(Drop)]
+#[derive(Clone, Copy)]
 pub enum Saved {
     Characters(State),
     Utf16(Utf16State),
 }
 
 // A run's answer.
-#[derive(Drop)]
+#[derive(Clone, Copy)]
 pub struct Answer {
     pub refusal: u32,
     pub offset: u32,

@@ -22,7 +22,7 @@ use reader::Cursor;
 use rules::ruled;
 
 // After a run's tokens: where the run stands, and what stands ahead, after white space at `here`.
-#[derive(Drop)]
+#[derive(Clone, Copy)]
 pub struct TokensWritten {
     pub at: Cursor,
     pub here: Cursor,

@@ -24,7 +24,7 @@ use record::write_token;
 
 // What became of an action: it was left, or it was a token and is written, after which reading goes on with so many payload
 // bytes used and with a part of the text that is known to be ASCII.
-#[derive(Drop)]
+#[derive(Clone, Copy)]
 pub enum PutResult {
     Left,
     Token {

@@ -42,7 +42,7 @@ pub fn payload_buffer() -> [u8; 262144]
 
 // What one run gave: it was refused, or its items are lines at the front of the buffer, with why it stopped and the state to
 // run on from.
-#[derive(Drop)]
+#[derive(Clone, Copy)]
 pub enum Round {
     Refused(u32),
     Lines {
@@ -72,7 +72,7 @@ pub fn round_of(answer: Answer, records: &[u32], out: &mut [u8]) -> Round
 }
 
 // How the listing ends: with a refusal, or with so many items listed.
-#[derive(Drop)]
+#[derive(Clone, Copy)]
 pub enum Ending {
     Refusal(u32),
     All(u64),

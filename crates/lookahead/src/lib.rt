@@ -18,7 +18,7 @@ use rule_table::table::{ActionRule, ReaderRule, Rule, rule_of};
 use select::select;
 
 // Where a reader stands after white space and line ends, what is chosen there, and the rule of the choice.
-#[derive(Drop)]
+#[derive(Clone, Copy)]
 pub enum Lookahead {
     // A choice whose rule gives an action.
     Action {
@@ -35,7 +35,7 @@ pub enum Lookahead {
 }
 
 // The item that stands ahead of a reader, as far as it is known before it is read.
-#[derive(Drop)]
+#[derive(Clone, Copy)]
 pub enum NextItem {
     // What a rule reads for itself of a choice.
     ByReader { choice: Choice, rule: ReaderRule },

@@ -15,7 +15,7 @@ use reader::cursors::{moved, next_line};
 use star::blanks::{blank_at, star_anywhite};
 
 // What is passed at a cursor: a run of white space or a line end, with the cursor after it, or nothing.
-#[derive(Drop)]
+#[derive(Clone, Copy)]
 enum Passed {
     On(Cursor),
     Nothing,

@@ -3,7 +3,7 @@
 ghost use Rattle.lowercase.specs.Blocks.{Tells};
 
 // What is told of a block: its letters, bit n standing for its code point n, or nothing.
-#[derive(Drop)]
+#[derive(Clone, Copy)]
 pub enum Block {
     Letters(u64),
     Untold,

@@ -15,7 +15,7 @@ use match_lit::{byte_either, byte_is, later, lit_after, match_lit};
 use star::{plus_binary, plus_digit, plus_hex, plus_octal};
 
 // The end of an integer's digits, and that of the digits after 0x, 0o or 0b: the source's `any_integer_ends`.
-#[derive(Drop)]
+#[derive(Clone, Copy)]
 pub struct IntegerEnds {
     pub plain: Match,
     pub based: Match,

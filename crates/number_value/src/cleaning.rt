@@ -6,7 +6,7 @@ ghost use Rattle.definition.specs.Numbers.{strips};
 ghost use Rattle.number_value.specs.CleaningContracts.{LeftStripped, RightStripped, Cleaned};
 
 // The bytes of a text from one offset up to another.
-#[derive(Drop)]
+#[derive(Clone, Copy)]
 pub struct Part {
     pub from: usize,
     pub to: usize,

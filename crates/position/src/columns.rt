@@ -3,14 +3,14 @@
 // what each function's `requires` says.
 
 // A part of the text that is known to be ASCII.
-#[derive(Drop)]
+#[derive(Clone, Copy)]
 pub struct AsciiRun {
     pub from: usize,
     pub to: usize,
 }
 
 // The columns of a token's ends.
-#[derive(Drop)]
+#[derive(Clone, Copy)]
 pub struct Columns {
     pub start: u32,
     pub end: u32,

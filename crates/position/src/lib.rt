@@ -14,14 +14,14 @@ ghost use Rattle.position.specs.Columns.{unit, Asked, column_at, located};
 use definition::{Pos, State};
 
 // The source's `cache_off` and `cache_col`: an offset of the current line, and its column.
-#[derive(Drop)]
+#[derive(Clone, Copy)]
 pub struct Cache {
     pub off: u32,
     pub col: u32,
 }
 
 // A position, and what is known after it was asked for.
-#[derive(Drop)]
+#[derive(Clone, Copy)]
 pub struct Located {
     pub pos: Pos,
     pub known: Cache,

@@ -24,7 +24,7 @@ use star::stops::{after, run_end};
 
 // What a blob's header says: the byte where it starts, where its name stands in the text, the position after it, and that of
 // its start.
-#[derive(Drop)]
+#[derive(Clone, Copy)]
 pub struct Header {
     pub start: u32,
     pub from: usize,
@@ -35,7 +35,7 @@ pub struct Header {
 
 // What stands at an offset of a blob: its end, with the offset after it; the text's end, which leaves it open; a line's
 // end; or something of its contents.
-#[derive(Drop)]
+#[derive(Clone, Copy)]
 enum Move {
     Close(usize),
     Open,

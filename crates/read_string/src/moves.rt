@@ -20,7 +20,7 @@ use star::stops::run_end;
 use utf8::encoding::encode_length;
 
 // What stands at an offset of a literal. A number at the end of a variant is the offset after it.
-#[derive(Drop)]
+#[derive(Clone, Copy)]
 pub enum Move {
     // Bytes that stand for themselves.
     Copy(usize),

@@ -9,7 +9,7 @@
 // part of a slice is a lexeme (Parts). Assumed: nothing.
 use crate::Payload;
 
-#[derive(Drop)]
+#[derive(Clone, Copy)]
 pub enum Action {
     // A token whose position is that of byte `start` and that ends at byte `end`. It is read from where the choice was made.
     Token {

@@ -18,7 +18,7 @@ use position::Cache;
 use table_entries::text_length;
 
 // Where the bytes of a payload come from. Offsets are those of the text; `to` and `end` are the ends of the bytes.
-#[derive(Drop)]
+#[derive(Clone, Copy)]
 pub enum Payload {
     // A part of the text.
     Part {
@@ -60,7 +60,7 @@ pub enum Payload {
 }
 
 // What a step reads: an item, its payload's description, the state after it, and a column that is known there.
-#[derive(Drop)]
+#[derive(Clone, Copy)]
 pub struct Read {
     pub item: Item,
     pub payload: Payload,
@@ -69,14 +69,14 @@ pub struct Read {
 }
 
 // Where a reader stands: a state, and a column that is known there.
-#[derive(Drop)]
+#[derive(Clone, Copy)]
 pub struct Cursor {
     pub st: State,
     pub known: Cache,
 }
 
 // What a turn of a reader answers: what it has read, or where it goes on.
-#[derive(Drop)]
+#[derive(Clone, Copy)]
 pub enum ReadResult {
     Done(Read),
     Again(Cursor),

@@ -8,7 +8,7 @@ ghost use Rattle.record.specs.Numbers.{extra_numbers, numbers, plain_item};
 use definition::{Extra, Item, Pos};
 
 // Word 0 and words 9 to 14, which go by what an item holds besides its kind, its range and its payload.
-#[derive(Drop)]
+#[derive(Clone, Copy)]
 pub struct ExtraNumbers {
     pub sort: u32,
     pub tag: u32,

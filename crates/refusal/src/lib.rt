@@ -12,7 +12,7 @@ use state::{by_second, sound};
 use utf8::characters::first_bad;
 
 // A refusal number, and for ill-formed UTF-8 the first offset where no legal sequence starts; 0 and 0 where nothing is refused.
-#[derive(Drop)]
+#[derive(Clone, Copy)]
 pub struct Refused {
     pub number: u32,
     pub offset: u32,

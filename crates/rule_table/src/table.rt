@@ -4,7 +4,7 @@ ghost use Rattle.rule_table.specs.Plain.{kind_of};
 ghost use Rattle.rule_table.specs.Rules.{rule_of};
 
 // What a choice leads to.
-#[derive(Drop)]
+#[derive(Clone, Copy)]
 pub enum Rule {
     // White space, and what is passed like it: the source's RWhite and RInFStar.
     White,
@@ -17,7 +17,7 @@ pub enum Rule {
 }
 
 // The rules that give an action on what was chosen: a token, an error or a line's comment, known without reading on.
-#[derive(Drop)]
+#[derive(Clone, Copy)]
 pub enum ActionRule {
     // A token that its place and word decide.
     Plain,
@@ -42,7 +42,7 @@ pub enum ActionRule {
 }
 
 // The rules that read on from after the choice, or make a character, or find that no place was chosen.
-#[derive(Drop)]
+#[derive(Clone, Copy)]
 pub enum ReaderRule {
     // A blob between backticks.
     TripleBacktick,

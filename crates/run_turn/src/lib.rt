@@ -19,7 +19,7 @@ use step::read;
 
 // What a turn of a run did: it stopped, for document 01's reason, or it wrote an item, after which reading goes on with so
 // many payload bytes used.
-#[derive(Drop)]
+#[derive(Clone, Copy)]
 pub enum TurnResult {
     Stop(u32),
     Wrote { next: Cursor, used: usize },

@@ -21,7 +21,7 @@ use crate::lengths::may_be_keyword;
 use table_words::spellings::is_word;
 
 // A place in the words of the three tables, or that a lexeme is none of them.
-#[derive(Drop)]
+#[derive(Clone, Copy)]
 pub enum Word {
     At(usize),
     Nowhere,

@@ -14,7 +14,7 @@ use reader::span;
 
 // The width so far, and the spaces that the line begins with. Where these are more than the width, the rest of the line
 // doesn't matter: it holds enough spaces, or another byte was met already.
-#[derive(Drop)]
+#[derive(Clone, Copy)]
 pub struct Margin {
     pub width: usize,
     pub spaces: usize,

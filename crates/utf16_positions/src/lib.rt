@@ -17,7 +17,7 @@ use crate::places::tally_at;
 use crate::plain::{is_plain, recount_plain};
 
 // A line: its number, its first byte, and the column there in characters and in units.
-#[derive(Drop)]
+#[derive(Clone, Copy)]
 pub struct LineStart {
     pub line: u32,
     pub bol: u32,
@@ -26,7 +26,7 @@ pub struct LineStart {
 }
 
 // A place of a line: its byte, and its column in characters and in units.
-#[derive(Drop)]
+#[derive(Clone, Copy)]
 pub struct Place {
     pub off: u32,
     pub col: u32,
@@ -34,14 +34,14 @@ pub struct Place {
 }
 
 // A line, and a place of it that is known.
-#[derive(Drop)]
+#[derive(Clone, Copy)]
 pub struct Tally {
     pub start: LineStart,
     pub place: Place,
 }
 
 // Where an item begins: at a place of a line; or, as a later piece of a comment, where the comment does, whose column in units is given.
-#[derive(Drop)]
+#[derive(Clone, Copy)]
 pub enum Begun {
     Here,
     Carried(u32),

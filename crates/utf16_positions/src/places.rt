@@ -9,7 +9,7 @@ use definition::Sequence;
 use utf8::sequence_at;
 
 // A character's bytes and units; both are 0 where none stands.
-#[derive(Drop)]
+#[derive(Clone, Copy)]
 pub struct CharSize {
     pub bytes: usize,
     pub units: u32,

@@ -20,7 +20,7 @@ use run_turn::TurnResult;
 use utf16_positions::{Begun, LineStart, Place, Tally, recount};
 
 // Where the second run stands: its state, a column that is known there, and a place of the line with both its columns.
-#[derive(Drop)]
+#[derive(Clone, Copy)]
 pub struct Utf16Cursor {
     pub state: Utf16State,
     pub known: Cache,
@@ -28,14 +28,14 @@ pub struct Utf16Cursor {
 }
 
 // What a turn did, as in the first run.
-#[derive(Drop)]
+#[derive(Clone, Copy)]
 pub enum Utf16TurnResult {
     Stop(u32),
     Wrote { next: Utf16Cursor, used: usize },
 }
 
 // What stands ahead of a run between two items: where it is given, after white space, and what is known of it before it is read.
-#[derive(Drop)]
+#[derive(Clone, Copy)]
 pub struct Ahead {
     pub here: Cursor,
     pub item: NextItem,
