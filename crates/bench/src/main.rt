@@ -6,6 +6,8 @@
 // beside the lexer's. The classes are those of the file classes.bin in the working directory; a missing one counts as empty.
 // Proved: it ends and breaks nothing, and what it runs is `lexer::run` or `lexer::utf16::run` (crate `either_run`).
 // Assumed: what `libc` and `os` declare of reading and writing.
+#![tactic(auto)]
+
 use either_run::Saved;
 use inputs::{class_buffer, least, payload_buffer, read_classes, record_buffer, text_buffer};
 use libc::{STDIN_FILENO, STDOUT_FILENO};

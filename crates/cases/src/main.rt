@@ -27,6 +27,8 @@
 // Proved: it ends and breaks nothing; what the calls answer is the definition's (crate `lexer`). What it
 // prints for the stored frames is compared with the file stdout. Assumed: what `libc` declares of reading and writing; a read that
 // fails counts as the end.
+#![tactic(auto)]
+
 mod print; // print.rt: the lines
 
 ghost use Rattle.std.specs.Prelude.{◌≡◌, ◌≤◌};

@@ -5,6 +5,8 @@
 // Proved: it ends and breaks nothing, and the choice is the definition's (crate `select`). What it writes for the stored
 // text, which reaches each of the 50 places and none, is compared with the file stdout.
 // Assumed: what `libc` and `os` declare of reading and writing.
+#![tactic(auto)]
+
 ghost use Rattle.select.specs.Standing.{Lent};
 
 use definition::{Choice, Sequence};

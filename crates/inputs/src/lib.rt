@@ -2,6 +2,8 @@
 // class file with one byte more than these may have, so that a longer one is refused and not cut.
 // Proved: each function is safe and ends; the buffers are as long as they are said to be; no more bytes are counted
 // as read than a buffer has. Assumed: what `libc` and `os` declare of reading; a read that fails counts as the end.
+#![tactic(auto)]
+
 ghost use Rattle.std.specs.Prelude.{◌≡◌, min, ◌*◌, length};
 ghost use Rattle.definition.specs.Item.{record_size};
 ghost use Rattle.io.specs.Counts.{IsPrefixLen};

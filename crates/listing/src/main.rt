@@ -2,6 +2,8 @@
 // what refuses the text (crate `listing_rounds`). The start is 1:0; lines count from 1, and columns count characters from 0.
 //
 // Proved: what that crate says. What it writes for document 01's text is compared with the file stdout.
+#![tactic(auto)]
+
 use either_run::Saved;
 
 fn main() {

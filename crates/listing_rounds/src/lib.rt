@@ -6,6 +6,8 @@
 // of its records, so that in all it is a line for each item (proofs/Whole.antt); the number after END is the count of all items, and
 // REFUSED comes only where the first run is refused. Assumed: what `libc` and `os` declare of reading and writing; a read that fails counts
 // as the end of what is read. No contract says what is handed over to be written.
+#![tactic(auto)]
+
 pub mod rounds; // rounds.rt: what a listing is lent, what one of its runs gives, and how it all ends
 
 ghost use Rattle.definition.specs.Tables.{cps};

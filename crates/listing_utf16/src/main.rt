@@ -2,6 +2,8 @@
 // count from 0, and columns count UTF-16 units.
 //
 // Proved: what that crate says, of the second run. What it writes for a text with characters above U+FFFF is compared with the file stdout.
+#![tactic(auto)]
+
 use either_run::Saved;
 
 fn main() {
