@@ -1,5 +1,4 @@
 use native.Mathlib.Omega.{arith}
-use Prim.Native.Nat.{◌-◌}
 use Rattle.number_value.proofs.Values.{digit_small, product_small, reading_starts, reading_goes_on, reading_stops, reading_ends}
 use Rattle.number_value.proofs.digits_above_255.Goals as goal
 
