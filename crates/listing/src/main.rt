@@ -2,10 +2,13 @@
 // what refuses the text (crate `listing_rounds`). The start is 1:0; lines count from 1, and columns count characters from 0.
 //
 // Proved: what that crate says. What it writes for document 01's text is compared with the file stdout.
-use either_run::Saved;
+#![tactic(auto)]
 
-fn main() {
+use either_run::Saved;
+use std::io;
+
+fn main(rt: HostRuntime) -> io::Result<()> {
     let begun = lexer::start(1, 0);
     let state = begun.state;
-    listing_rounds::list_input(Saved::Characters(state));
+    listing_rounds::list_input(&rt, Saved::Characters(state))
 }

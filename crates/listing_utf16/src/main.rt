@@ -2,10 +2,13 @@
 // count from 0, and columns count UTF-16 units.
 //
 // Proved: what that crate says, of the second run. What it writes for a text with characters above U+FFFF is compared with the file stdout.
-use either_run::Saved;
+#![tactic(auto)]
 
-fn main() {
+use either_run::Saved;
+use std::io;
+
+fn main(rt: HostRuntime) -> io::Result<()> {
     let begun = lexer::utf16::start(1, 0);
     let state = begun.state;
-    listing_rounds::list_input(Saved::Utf16(state));
+    listing_rounds::list_input(&rt, Saved::Utf16(state))
 }
