@@ -93,6 +93,7 @@ right_max {Q = Q} a b = right_later a (right_map (λ e. found e) (λ e q. inl q)
   where
     found : (e : ℕ) → Q e ⊎ ⊥ → Q e
     found e (inl q) = q
+    found e (inr none) = absurd none
 
 -- ---- ends that can go on
 

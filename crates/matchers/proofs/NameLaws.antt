@@ -33,7 +33,7 @@ module _ (p q : ℕ → Bool) (s : Bytes) (i : ℕ) where
   head_no h t = ap (λ (m : Match). m then λ j. To (star q s j)) (sym (one_no p s i h t))
 
   -- Nor does no character.
-  pub head_other : {t : Sequence} → t ≡ sequence_at s i → OneOf (1 ∷ 2 ∷ []) (tag_of the_type t) → Nothing ≡ (one p s i then λ j. To (star q s j))
+  pub head_other : {t : Sequence} → t ≡ sequence_at s i → ((c w : ℕ) → t ≡ Char c w → ⊥) → Nothing ≡ (one p s i then λ j. To (star q s j))
   head_other e h = ap (λ (m : Match). m then λ j. To (star q s j)) (sym (one_other p s i e h))
 
 -- ---- line ends
@@ -54,7 +54,7 @@ module _ (s : Bytes) (i : ℕ) where
   not_return e n = single (rw (return_of e, n))
 
   -- Where no character stands there is no line end.
-  pub newline_other : {t : Sequence} → t ≡ sequence_at s i → OneOf (1 ∷ 2 ∷ []) (tag_of the_type t) → match_newline s i ≡ Nothing
+  pub newline_other : {t : Sequence} → t ≡ sequence_at s i → ((c w : ℕ) → t ≡ Char c w → ⊥) → match_newline s i ≡ Nothing
   newline_other {t} e h =
       let none : char_has (λ c. eqb c (ch "\r")) s i ≡ false = return_of (sym e) ∙ with_none t i _ false (no_char t h) in
       single (rw none) ∙ one_other is_newline_char s i e h

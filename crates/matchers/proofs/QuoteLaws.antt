@@ -121,7 +121,7 @@ module _ (s : Bytes) (i : ℕ) where
   char_of e = ap (λ (t : Sequence). with_char t i (λ c j. elim (eqb c (ch "\\")) [ true ↦ match_escape s i | false ↦ To j ]) Nothing) e
 
   -- Where no character stands it finds none.
-  pub char_other : {t : Sequence} → t ≡ sequence_at s i → OneOf (1 ∷ 2 ∷ []) (tag_of the_type t) → match_char s i ≡ Nothing
+  pub char_other : {t : Sequence} → t ≡ sequence_at s i → ((c w : ℕ) → t ≡ Char c w → ⊥) → match_char s i ≡ Nothing
   char_other {t} e h = char_of (sym e) ∙ with_none t i _ Nothing (no_char t h)
 
   module _ {c w : ℕ} (e : sequence_at s i ≡ Char c w) where

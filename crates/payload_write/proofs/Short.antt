@@ -4,8 +4,6 @@ use Prim.Native.Nat.{ℕ, ◌<◌, ◌≤◌}
 use mathlib.Core.Path.{◌≡◌, refl, ◌∙◌}
 use mathlib.Core.List.{[], ◌∷◌}
 use native.Mathlib.Omega.{arith}
-use types.Run.{OneOf}
-use denote.Enum.Declared.{tag_of}
 use lib.ListN.{length, get_or}
 use lib.Seq.{length-slice}
 use Rattle.definition.specs.Basics.{Bytes}
@@ -16,8 +14,7 @@ use Rattle.payload_write.specs.Asks.{Copies}
 use Rattle.reader.specs.declared.Payload.{Payload}
 use Rattle.reader.specs.declared.Payload.TheVariants.{Part, Text, Greater, Name, Line, FileLine, Literal, Piece, Blob}
 use Rattle.reader.specs.Described.{bytes_of, short_length, Inside}
-use Rattle.reader.specs.contracts.Payload.{the_type}
-use Rattle.reader.proofs.Short.{short_long, others, short_other}
+use Rattle.reader.proofs.Short.{short_long, Other, short_other}
 use Rattle.payload_write.specs.Writable.{ShortFits}
 
 -- a part is copied
@@ -51,7 +48,7 @@ pub nothing_short : {s out : Bytes} (name f : Bytes) (p : Payload) (size : ℕ) 
 nothing_short {s} {out} name f p size z w = over_none (bytes_of s name f p) out (short_bytes s name f p size w.inside w.short ∙ z)
 
 -- no other payload is short
-pub no_other : {s out : Bytes} (p : Payload) (size : ℕ) → ShortFits s p size out → OneOf others (tag_of the_type p) → ⊥
+pub no_other : {s out : Bytes} (p : Payload) (size : ℕ) → ShortFits s p size out → Other p → ⊥
 no_other p size w h =
     let e : short_length p ≡ Nothing = short_other p h in
     let z : ◌≡◌ {A = ℕ} 0 1 = cc w.short in

@@ -1,5 +1,4 @@
 pub mod Counting
-pub mod Lent
 pub mod Weights
 pub mod Ascii
 pub mod Skips

@@ -2,17 +2,11 @@
 -- payload has left out parts of the text and texts of the tables. Rests on nothing but the definition of the lengths.
 use Prim.Native.Nat.{ℕ}
 use mathlib.Core.Path.{◌≡◌, refl}
-use mathlib.Core.Bool.{false≢true}
-use mathlib.Core.List.{List, [], ◌∷◌}
-use types.Run.{OneOf}
-use denote.Enum.Declared.{tag_of}
-use Rattle.definition.specs.Basics.{Bytes, mem_cp}
+use Rattle.definition.specs.Basics.{Bytes}
 use Rattle.definition.specs.declared.Match.TheVariants.{To, Nothing}
-use Rattle.lemmas.proofs.Members.{mem_yes}
 use Rattle.reader.specs.declared.Payload.{Payload}
 use Rattle.reader.specs.declared.Payload.TheVariants.{Part, Text, Greater, Name, Line, FileLine, Literal, Piece, Blob}
 use Rattle.reader.specs.Described.{length_of, short_length}
-use Rattle.reader.specs.contracts.Payload.{the_type}
 
 pub short_long : (name : Bytes) (p : Payload) (n : ℕ) → short_length p ≡ To n → length_of name p ≡ n
 short_long name (Part from to) n e = cc
@@ -25,18 +19,18 @@ short_long name (Literal from m) n e = cc
 short_long name (Piece from to width m) n e = cc
 short_long name (Blob from to contents end) n e = cc
 
--- the cases after the first two, which are a part of the text and a text of the tables
-abbrev pub others : List ℕ
-others = 2 ∷ 3 ∷ 4 ∷ 5 ∷ 6 ∷ 7 ∷ 8 ∷ []
+-- neither a part of the text nor a text of the tables
+pub record Other (p : Payload) : Type 0 where
+  pub part : (from to : ℕ) → p ≡ Part from to → ⊥
+  pub text : (k : ℕ) → p ≡ Text k → ⊥
 
-pub short_other : (p : Payload) → OneOf others (tag_of the_type p) → short_length p ≡ Nothing
-unfolding mem_cp
-short_other (Part from to) h = absurd (false≢true (mem_yes others others 0 refl h))
-short_other (Text k) h = absurd (false≢true (mem_yes others others 1 refl h))
-short_other (Greater from to) h = refl
-short_other Name h = refl
-short_other (Line n) h = refl
-short_other (FileLine n) h = refl
-short_other (Literal from n) h = refl
-short_other (Piece from to width n) h = refl
-short_other (Blob from to contents end) h = refl
+pub short_other : (p : Payload) → Other p → short_length p ≡ Nothing
+short_other (Part from to) o = absurd (o.part from to refl)
+short_other (Text k) o = absurd (o.text k refl)
+short_other (Greater from to) o = refl
+short_other Name o = refl
+short_other (Line n) o = refl
+short_other (FileLine n) o = refl
+short_other (Literal from n) o = refl
+short_other (Piece from to width n) o = refl
+short_other (Blob from to contents end) o = refl

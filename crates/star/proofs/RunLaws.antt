@@ -35,8 +35,8 @@ use Rattle.laws_progress.proofs.Walks.{byte_passes}
 use Rattle.match_lit.proofs.ByteLaws.{has_within, has_inside}
 
 -- What is neither of the code's other two answers is no character.
-pub no_char : (q : Sequence) → OneOf (1 ∷ 2 ∷ []) (tag_of the_type q) → NoChar q
-no_char (Char c w) h = ⊎_elim (λ e. omega arith) (λ e. omega arith) h
+pub no_char : (q : Sequence) → ((c w : ℕ) → q ≡ Char c w → ⊥) → NoChar q
+no_char (Char c w) h = absurd (h c w refl)
 no_char Bad h = tt
 no_char End h = tt
 
@@ -66,7 +66,7 @@ module _ (p : ℕ → Bool) (s : Bytes) (i : ℕ) where
   one_end h = one_none (rw (read_end s i h) tt)
 
   -- Nor is one where the code's answer is no character.
-  pub one_other : {q : Sequence} → q ≡ sequence_at s i → OneOf (1 ∷ 2 ∷ []) (tag_of the_type q) → one p s i ≡ Nothing
+  pub one_other : {q : Sequence} → q ≡ sequence_at s i → ((c w : ℕ) → q ≡ Char c w → ⊥) → one p s i ≡ Nothing
   one_other {q} e h = one_none (subst NoChar e (no_char q h))
 
   -- ---- runs, by one character

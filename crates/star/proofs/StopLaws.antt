@@ -45,6 +45,6 @@ unfolding after
 after_char s i {c} {w} e = sym (ap (λ (t : Sequence). with_char t i (λ c j. j) i) e)
 
 -- Where the code's answer is no character it is the offset itself.
-pub after_none : (s : Bytes) (i : ℕ) {q : Sequence} → q ≡ sequence_at s i → OneOf (1 ∷ 2 ∷ []) (tag_of the_type q) → i ≡ after s i
+pub after_none : (s : Bytes) (i : ℕ) {q : Sequence} → q ≡ sequence_at s i → ((c w : ℕ) → q ≡ Char c w → ⊥) → i ≡ after s i
 unfolding after
 after_none s i {q} e h = sym (with_none (sequence_at s i) i _ i (subst NoChar e (no_char q h)))

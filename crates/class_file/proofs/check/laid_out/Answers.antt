@@ -1,0 +1,23 @@
+use Prim.Native.Nat.{◌-◌}
+use mathlib.Core.Path.{sym, ◌∙◌}
+use native.Mathlib.Omega.{arith}
+use Rattle.definition.specs.ClassFile.{class_offset, class_count}
+use Rattle.class_file.proofs.Accepted.{placed_start, placed_next, placed_wrong, placed_end}
+use Rattle.class_file.proofs.check.laid_out.Goals as goal
+
+pub loop-k-init : goal.loop-k-init
+loop-k-init c = placed_start _
+
+pub returns-then-number_at-place : goal.returns-then-number_at-place
+unfolding class_offset
+returns-then-number_at-place c =
+    sym (placed_wrong _ _ _ c.loop-k.invariant c.loop-k-test.true (λ e. c.if-number_at-place.true (c.number_at.ensures ∙ e)))
+
+pub loop-k-preserved : goal.loop-k-preserved
+unfolding class_offset class_count
+loop-k-preserved c =
+    placed_next _ _ _ _ c.loop-k.invariant c.loop-k-test.true (omega arith) c.number_at-in-loop-k.ensures
+    (sym c.number_at.ensures ∙ c.if-number_at-place.false)
+
+pub returns : goal.returns
+returns c = sym (placed_end _ _ _ c.loop-k.invariant c.loop-k-test.false)

@@ -1,0 +1,39 @@
+-- `kw_op` is what trying every keyword operator gives: none is there where the word that the text's byte begins would have no operator
+-- character after it, and no word begins another, so the first that fits is the only one. It stands in the text, so the sum fits.
+use mathlib.Core.Path.{sym, ◌∙◌}
+use Rattle.definition.specs.Utf8.{encode, encode_all}
+use Rattle.definition.specs.Tables.{cps, kw_op_rules}
+use Rattle.table_words.proofs.TableLaws.{row_length, row_short}
+use Rattle.table_kw_op.proofs.Computed.{kw_ops, kw_short}
+use Rattle.table_kw_op.proofs.Searches.{kw_past, kw_reach_none, kw_none, kw_no, kw_yes}
+use native.Mathlib.Omega.{arith}
+use Rattle.table_kw_op.proofs.kw_op.Goals as goal
+
+pub returns-then-text-i : goal.returns-then-text-i
+returns-then-text-i c = c.nothing.ensures ∙ sym (kw_past _ _ c.if-text-i.true)
+
+pub returns-then-not-op_char_at : goal.returns-then-not-op_char_at
+returns-then-not-op_char_at c =
+    c.nothing-then-not-op_char_at.ensures
+    ∙ sym (kw_reach_none _ _ c.if-text-i.false c.kw_op_reach-n.ensures c.if-n-ne0.true (sym c.op_char_at.ensures ∙ c.if-not-op_char_at.true))
+
+pub returns-then-word-ge9 : goal.returns-then-word-ge9
+returns-then-word-ge9 c = c.nothing-then-word-ge9.ensures ∙ sym (kw_none _ _ c.kw_op_word-word.ensures c.if-word-ge9.true)
+
+pub overflow_add-i-2 : goal.overflow_add-i-2
+unfolding kw_op_rules cps encode_all encode
+overflow_add-i-2 c =
+    let k = c.kw_op_word-word.result in
+    omega (arith, row_length kw_ops k, row_short 6 kw_ops kw_short k)
+
+pub returns-in_default : goal.returns-in_default
+unfolding kw_op_rules cps encode_all encode
+returns-in_default c =
+    let k = c.kw_op_word-word in
+    c.nothing-in_default.ensures ∙ sym (kw_no _ _ k.ensures c.if-word-ge9.false (row_length kw_ops k.result) (sym c.plus_op_char.ensures ∙ c.in_default.is))
+
+pub returns : goal.returns
+unfolding kw_op_rules cps encode_all encode
+returns c =
+    let k = c.kw_op_word-word in
+    sym (kw_yes _ _ k.ensures c.if-word-ge9.false (row_length kw_ops k.result) (sym c.plus_op_char.ensures ∙ c.in-To.is))

@@ -1,0 +1,9 @@
+-- `at_question` tries the tokens that begin with the byte, in the definition's order.
+use Rattle.definition.specs.Utf8.{encode, encode_all}
+use Rattle.definition.specs.Tables.{cps, op_tokens}
+use Rattle.table_words.specs.Rows.{try_rows}
+use Rattle.table_op_tokens.proofs.tokens_at.at_question.Goals as goal
+
+pub returns : goal.returns
+unfolding try_rows op_tokens cps encode_all encode
+returns c = rw (c.try_word.ensures, c.try_word-best.ensures, c.nothing.ensures)

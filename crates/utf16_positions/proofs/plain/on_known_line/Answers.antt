@@ -1,0 +1,31 @@
+-- Each way out that answers no says nothing; where none is taken each of the six holds.
+use mathlib.Core.Bool.{false≢true}
+use native.Mathlib.Omega.{arith}
+use borrow.Author.Tests.{leb-true}
+use Rattle.utf16_positions.proofs.plain.on_known_line.Goals as goal
+
+pub returns-then-not-same_line : goal.returns-then-not-same_line
+returns-then-not-same_line c = λ e. absurd (false≢true e)
+
+pub returns-then-out-gt1 : goal.returns-then-out-gt1
+returns-then-out-gt1 c = λ e. absurd (false≢true e)
+
+pub returns-then-out-here : goal.returns-then-out-here
+returns-then-out-here c = λ e. absurd (false≢true e)
+
+pub returns-then-out-here-2 : goal.returns-then-out-here-2
+returns-then-out-here-2 c = λ e. absurd (false≢true e)
+
+pub returns-then-out-known : goal.returns-then-out-known
+returns-then-out-known c = λ e. absurd (false≢true e)
+
+pub returns : goal.returns
+returns c = λ e.
+    record {
+      same = c.same_line.ensures c.if-not-same_line.false;
+      few = omega arith;
+      start_line = omega arith;
+      end_line = omega arith;
+      after = omega arith;
+      order = leb-true _ _ e;
+    }
