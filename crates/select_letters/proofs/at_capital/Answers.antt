@@ -1,0 +1,7 @@
+-- `at_capital` is the choice of place 15.
+use mathlib.Core.Path.{refl}
+use Rattle.select_places.proofs.Chains.{placed}
+use Rattle.select_letters.proofs.at_capital.Goals as goal
+
+pub returns : goal.returns
+returns c = placed _ _ c.alone.ensures refl c.name_after.ensures

@@ -1,0 +1,15 @@
+-- `at_point` is the best of places 35, 36 and 50.
+use mathlib.Core.Path.{refl}
+use Rattle.definition.specs.Tables.{cps}
+use Rattle.definition.specs.Utf8.{encode, encode_all}
+use Rattle.select_places.proofs.Chains.{kept, placed}
+use Rattle.select_operators.proofs.at_point.Goals as goal
+
+pub returns : goal.returns
+unfolding cps encode_all encode
+returns c =
+    kept c.keep.ensures
+    (kept c.keep-best.ensures
+    (placed _ _ c.alone-best.ensures refl c.match_lit.ensures)
+    c.op_token.ensures)
+    c.mixfix_word.ensures
