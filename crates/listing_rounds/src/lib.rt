@@ -4,16 +4,19 @@
 //
 // Proved: it ends; each run is the definition's (crate `either_run`), and what it leaves in the buffer to be written are the definition's lines
 // of its records, so that in all it is a line for each item (proofs/Whole.antt); the number after END is the count of all items, and
-// REFUSED comes only where the first run is refused. Assumed: nothing. What the system gives to read, and takes of what is written, no
-// contract says; a read or a write that fails ends the listing with its error.
+// REFUSED comes only where the first run is refused; a writer whose bytes are known takes just the lines of all items and the last line
+// (`list`). Assumed: nothing. What the system gives to read, and takes of what is written, no contract says; a read or a write that
+// fails ends the listing with its error.
 #![tactic(auto)]
 
 pub mod rounds; // rounds.rt: what a listing is lent, what one of its runs gives, and how it all ends
 
-ghost use Rattle.std.specs.Prelude.{IfOk};
+ghost use Rattle.std.specs.Prelude.{◌++◌, ◌<◌, ◌≤◌, length, codes, IfOk, OnOk};
+ghost use Rattle.std.specs.Io.KnownBytes.{Appends};
 ghost use Rattle.definition.specs.Tables.{cps};
 ghost use Rattle.either_run.specs.Either.{either_run};
-ghost use Rattle.listing_rounds.specs.Rounds.{AtFirst, Lent, Begun, Rounded, Ends};
+ghost use Rattle.listing_rounds.specs.Rounds.{AtFirst, Lent, Begun, Rounded, Ends, told, before_last, last_line};
+ghost use Rattle.listing_rounds.specs.declared.rounds.Ending.{Ending};
 
 use either_run::{Saved, run};
 use inputs::{class_buffer, read_classes, read_full, short_text_buffer};
@@ -23,7 +26,9 @@ use std::io;
 use std::io::Write;
 
 // A line of a word and a number.
-fn say<W: Write>(to: &mut W, word: &str, number: u64) -> io::Result<()> {
+fn say<W: Write>(to: &mut W, word: &str, number: u64) -> io::Result<()>
+    ensures { OnOk result (Appends (W.contents to.old) (W.contents to.new) (told word.now number)) }
+{
     writeln!(to, "{word} {number}")
 }
 
@@ -43,6 +48,9 @@ fn run_once(
     round_of(answer, records, out)
 }
 
+// Why a run stopped: it came to the end.
+const AT_END: u32 = 0;
+
 // Runs on from a state until the end, and writes the lines of each run at once. Only the first run can be refused, since the
 // state that a run hands back is taken again. Each run but the last writes an item, since both buffers are free again and have
 // room for any one item: so what is left to read falls with each run. The only error is the writer's own.
@@ -56,7 +64,8 @@ fn list_from<W: Write>(
     out: &mut [u8],
 ) -> io::Result<Ending>
     requires { Begun text.now begun × Lent records.old payload.old out.old }
-    ensures { IfOk result (Ends text.now (cps "stdin") classes.now begun) }
+    ensures ends { IfOk result (Ends text.now (cps "stdin") classes.now begun) }
+    ensures lines { IfOk result (λ ending. Appends (W.contents to.old) (W.contents to.new) (before_last text.now (cps "stdin") classes.now begun ending)) }
 {
     let mut from = begun;
     let mut listed: u64 = 0;
@@ -71,7 +80,7 @@ fn list_from<W: Write>(
             } => {
                 to.write_all(&out[..bytes])?;
                 listed += items as u64;
-                if stop == 0 {
+                if stop == AT_END {
                     return Ok(Ending::All(listed));
                 }
                 from = next;
@@ -81,16 +90,21 @@ fn list_from<W: Write>(
 }
 
 // The last line.
-fn say_ending<W: Write>(to: &mut W, ending: Ending) -> io::Result<()> {
+fn say_ending<W: Write>(to: &mut W, ending: Ending) -> io::Result<()>
+    ensures { OnOk result (Appends (W.contents to.old) (W.contents to.new) (last_line ending)) }
+{
     match ending {
         Ending::Refusal(number) => say(to, "REFUSED", number as u64),
         Ending::All(items) => say(to, "END", items),
     }
 }
 
-// The lines of a text under a class file. The only error is the writer's own.
-fn list<W: Write>(to: &mut W, text: &[u8], classes: &[u8], begun: Saved) -> io::Result<()>
+// The lines of a text under a class file, and the last line. The only error is the writer's own.
+pub fn list<W: Write>(to: &mut W, text: &[u8], classes: &[u8], begun: Saved) -> io::Result<()>
     requires { AtFirst begun }
+    ensures long { 60000 < length text.now → OnOk result (Appends (W.contents to.old) (W.contents to.new) (told (codes "REFUSED") 6)) }
+    ensures listed { length text.now ≤ 60000 → OnOk result ((ending : Ending) × Ends text.now (cps "stdin") classes.now begun ending
+        × Appends (W.contents to.old) (W.contents to.new) (before_last text.now (cps "stdin") classes.now begun ending ++ last_line ending)) }
 {
     if too_long(text.len()) {
         return say(to, "REFUSED", 6);
