@@ -1,5 +1,4 @@
-"""What scripts/items and scripts/lint share: the runs over a text, one after another, and their items as objects. (scripts/which-range
-has the class file and the words for its refusals from here.)
+"""What scripts/items and scripts/lint share: the runs over a text, one after another, and their items as objects.
 
 The program `cases` makes the runs; the head of its main.rt says what it reads and prints. Documents 01 and 02 say what the numbers
 of an answer and of a record mean, and docs/DECISIONS.md what they leave open."""

@@ -2,6 +2,8 @@
 // ASCII character is never looked up in a class. (The tests that look nothing up are the module `fixed`.)
 // Proved: each is the definition's test; those that read a class file are so for any file that the class check accepts.
 // Assumed: nothing but what each function's `requires` says.
+#![tactic(auto)]
+
 pub mod ascii; // ascii.rt: the two tables of 128 yes-or-no entries for operator characters
 pub mod fixed; // fixed.rt: the tests on characters that look nothing up
 

@@ -2,6 +2,8 @@
 //
 // Proved: both functions are the definition's, `none_at` and `keep`.
 // Assumed: nothing.
+#![tactic(auto)]
+
 pub mod attempts; // attempts.rt: a place of `select`, or a word of a table, tried after others: the source's `try_`
 
 ghost use Rattle.std.specs.Prelude.{◌≡◌};

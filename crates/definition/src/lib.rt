@@ -1,6 +1,8 @@
 // The types that all layers share, and the methods of the lexing state. What they mean stands in specs/, which is the
 // definition of the whole lexer. Proved: each method is the definition's change of the state, and (in proofs/) the
 // definition computes document 01's cases. Assumed: nothing but what each method's `requires` says.
+#![tactic(auto)]
+
 pub mod errors; // errors.rt: the errors' numbers by name
 pub mod kinds; // kinds.rt: the numbers of kinds by name
 

@@ -3,6 +3,8 @@
 //
 // Proved: for every input it answers what the definition's run of that kind does, and leaves both buffers so (specs/Either.antt).
 // Assumed: nothing.
+#![tactic(auto)]
+
 ghost use Rattle.std.specs.Prelude.{◌≡◌};
 ghost use Rattle.either_run.specs.Either.{either_run};
 

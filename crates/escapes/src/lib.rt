@@ -2,6 +2,8 @@
 // Proved: each public function answers what the definition's function of its name says; `unescape` at any offset of any
 // bytes.
 // Assumed: nothing but what `joined` requires: its numbers are the halves of a pair.
+#![tactic(auto)]
+
 ghost use Rattle.std.specs.Prelude.{◌≡◌};
 ghost use Rattle.definition.specs.Escapes.{code_at, hex_value, unescape, is_surrogate, is_high_half, is_low_half, joined};
 ghost use Rattle.escapes.specs.Asks.{Digits, ByteFollows, escaped, Halves};

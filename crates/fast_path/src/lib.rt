@@ -7,6 +7,8 @@
 // second run asks it for (crate `utf16_turn`). That as many tokens as possible are written is not promised: what is left, a turn writes.
 // Assumed: nothing but what `write_tokens`'s `requires` says: the run was not refused and stands between two items, and the
 // tables of operator and of symbol characters are lent.
+#![tactic(auto)]
+
 pub mod puts; // puts.rt: a token written from its action
 
 ghost use Rattle.std.specs.Prelude.{◌≡◌, []};

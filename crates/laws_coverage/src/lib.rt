@@ -3,3 +3,4 @@
 // (Records). Proved (in proofs/): from every sound state that hasn't ended, up to the text's end or to the first byte of the choice that
 // failed, each byte is counted once, in the span of an item or in what the white, line-end or `// IN F*:` rule took (Law); the spans are
 // those in the records, however runs are split (Records); and on a table of texts what is taken is computed (Cases). Assumed: nothing.
+#![tactic(auto)]

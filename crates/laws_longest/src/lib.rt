@@ -2,3 +2,4 @@
 // every class file, `select` takes the longest part that any of the 50 patterns permits, and of those the one of the earliest place;
 // and the longest end of each place by itself, defined in specs/LongestEnd.antt, is that of its pattern.
 // Assumed: nothing.
+#![tactic(auto)]

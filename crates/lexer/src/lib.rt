@@ -5,6 +5,8 @@
 //
 // Proved: for every input each answers as the definition says, and `run` leaves both buffers so, refusals included. What `run` promises,
 // the three demands and document 02's K4, stands in specs/Promises.antt. Assumed: nothing.
+#![tactic(auto)]
+
 pub mod utf16; // utf16.rt: the second run, with an editor's positions: lines from 0, columns in UTF-16 units
 
 ghost use Rattle.std.specs.Prelude.{◌≡◌};

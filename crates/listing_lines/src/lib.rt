@@ -2,6 +2,8 @@
 // one after the other from the front of the lent buffer on, the rest of which keeps what it held, and the answer is their
 // length. Assumed: nothing but what each function's `requires` says: the buffer has room for the longest line, 106 bytes,
 // for each record.
+#![tactic(auto)]
+
 mod kind_names; // kind_names.rt: the kinds' names by number
 
 ghost use Rattle.std.specs.Prelude.{◌≡◌, ◌∷◌, map, ◌≤◌, length, get_or};

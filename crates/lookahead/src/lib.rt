@@ -5,6 +5,8 @@
 // What the next item is is said in specs/Lookahead.antt (`Ahead-step`).
 // Assumed: nothing but what `look`'s `requires` says: a reader stands in a sound state of a legal text, between comments, and
 // the class file and the tables of operator and of symbol characters are lent.
+#![tactic(auto)]
+
 pub mod white_space; // white_space.rt: white space and line ends of ASCII, passed before a choice
 
 ghost use Rattle.lookahead.specs.Lookahead.{Looks, Sees};

@@ -2,6 +2,8 @@
 // point's block are not told by bits. Proved: the table is the one that the source's text spells, what is told of a block are
 // the letters that the table has in it, and a code point is found exactly where one of its ranges holds it.
 // Assumed: nothing.
+#![tactic(auto)]
+
 mod blocks; // blocks.rt: the letters of some blocks of code points
 mod ll_table; // ll_table.rt: the ranges
 

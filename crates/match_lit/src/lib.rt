@@ -2,6 +2,8 @@
 //
 // Proved: the answer of each function is what the definition gives, at any offset of any bytes.
 // Assumed: nothing but, of `no_comment`, that its range lies in the text.
+#![tactic(auto)]
+
 ghost use Rattle.std.specs.Prelude.{◌≡◌, ◌&&◌, ◌||◌, ◌+◌, ◌≤◌, eqb, leb, length};
 ghost use Rattle.definition.specs.Text.{byte_has, byte_is};
 ghost use Rattle.definition.specs.Matchers.{◌then◌, later, match_lit, no_comment};

@@ -4,6 +4,8 @@
 //
 // Proved: the answer of each public function is what the definition gives, at any offset of any bytes.
 // Assumed: nothing.
+#![tactic(auto)]
+
 pub mod floats; // floats.rt: floats, reals, and numbers that go wrong
 
 ghost use Rattle.std.specs.Prelude.{◌≡◌};

@@ -5,6 +5,8 @@
 // Proved: the answer of each function is what the definition gives, at any offset of any bytes.
 // Assumed: nothing but what each function's `requires` says: a class file that `class_check` accepts where a class is
 // asked.
+#![tactic(auto)]
+
 pub mod quoted; // quoted.rt: escapes, character literals, names in backticks
 
 ghost use Rattle.std.specs.Prelude.{◌≡◌};

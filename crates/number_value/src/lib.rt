@@ -2,6 +2,8 @@
 // Proved: each public function answers what the definition's `digit_value` or `int_of_string` says, for numbers of any
 // length.
 // Assumed: nothing.
+#![tactic(auto)]
+
 pub mod cleaning; // cleaning.rt: what is left of a number without the letters of its prefixes and suffixes
 pub mod decimals; // decimals.rt: the decimal digits of a number
 

@@ -3,6 +3,8 @@
 // Proved: exactly the bytes that the description stands for are written, and the rest of the buffer keeps what it held.
 // Assumed: nothing but what each function's `requires` says: the description is right for the text, and the buffer has
 // room for its bytes.
+#![tactic(auto)]
+
 pub mod literals; // literals.rt: what string literals hold, written
 
 ghost use Rattle.std.specs.Prelude.{◌≡◌, ◌∷◌, ◌++◌, ◌+◌, ◌-◌, ◌≤◌, length};

@@ -4,6 +4,8 @@
 // the count and of columns are stated for any weight per character, and so are those of the characters after an offset
 // (proofs/Skips.antt); the functions count 1 for each.
 // Assumed: nothing but what each function's `requires` says.
+#![tactic(auto)]
+
 pub mod ascii_runs; // ascii_runs.rt: the functions
 pub mod columns; // columns.rt: the columns of a token's ends, without a count where the bytes before them are known to be ASCII
 

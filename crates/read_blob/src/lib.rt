@@ -3,6 +3,8 @@
 // Proved: what is read is what the definition's `blob` or `use_lang` gives: item, payload and state.
 // Assumed: nothing but what each function's `requires` says: a reader stands in a sound state of a legal text.
 // Cost: a blob is read once.
+#![tactic(auto)]
+
 ghost use Rattle.std.specs.Prelude.{◌≡◌};
 ghost use Rattle.definition.specs.Basics.{Bytes};
 ghost use Rattle.definition.specs.State.{advance};

@@ -6,6 +6,8 @@
 // Assumed: nothing but what each function's `requires` says: a reader stands in a comment, in a sound state of a legal text.
 // Cost: a comment is read once. A piece whose lines lose bytes is passed over again for their width and for its length; no
 // pass goes back before the piece.
+#![tactic(auto)]
+
 pub mod line_comments; // line_comments.rt: line comments
 
 ghost use Rattle.definition.specs.Comment.{terminate, comment_turn, comment};

@@ -5,6 +5,8 @@
 // Assumed: nothing but what each function's `requires` says: the class file is accepted, and a reader stands in a sound
 // state of a legal text.
 // Cost: a literal is read once.
+#![tactic(auto)]
+
 pub mod moves; // moves.rt: what stands at an offset of a string literal, how many bytes it adds, and where it ends
 
 ghost use Rattle.std.specs.Prelude.{◌≡◌, ◌<◌};

@@ -5,6 +5,8 @@
 // bytes a description stands for is `bytes_of` there, and those who answer a description prove that it describes the
 // payload (`Describes`).
 // Assumed: nothing but what each function's `requires` says.
+#![tactic(auto)]
+
 pub mod actions; // actions.rt: what a rule may say of a choice that is read whole: a token, an error or a line's comment
 pub mod cursors; // cursors.rt: where a reader stands after it reads on
 pub mod tokens; // tokens.rt: tokens and errors as readers answer them

@@ -1,5 +1,7 @@
 // An item as the eighteen numbers of its record. Proved: exactly the definition's `words` are written to the front of the
 // lent buffer, and the rest of it keeps what it held. Assumed: nothing but that the buffer has room.
+#![tactic(auto)]
+
 ghost use Rattle.std.specs.Prelude.{◌≡◌, ◌≤◌, length};
 ghost use Rattle.definition.specs.Item.{mark, record_size, words};
 ghost use Rattle.lemmas.specs.Over.{over};

@@ -1,6 +1,8 @@
 // What a run is refused for, in document 01's order: the text's length, the name's, the class file, ill-formed UTF-8, an
 // unsound state; and then, by document 02, the second run for a second column that isn't sound, and for a line 0. Proved: the answers are
 // the definition's `refusal` and `utf16_refusal`, for every input. Assumed: nothing.
+#![tactic(auto)]
+
 ghost use Rattle.std.specs.Prelude.{◌≡◌, ◌≤◌, length};
 ghost use Rattle.definition.specs.Run.{refusal};
 ghost use Rattle.definition.specs.Utf16.{line_zero, utf16_refusal};

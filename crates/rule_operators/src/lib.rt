@@ -4,6 +4,8 @@
 // payload and state. No payload is copied: each is a part of the text, or a `>` and a part.
 // Assumed: nothing but what each function's `requires` says: a reader stands in a sound state of a legal text, and the
 // choice ends after it (`Chose`).
+#![tactic(auto)]
+
 ghost use Rattle.std.specs.Prelude.{◌<◌};
 ghost use Rattle.definition.specs.Basics.{Bytes};
 ghost use Rattle.definition.specs.Tables.{kw_op_entry};

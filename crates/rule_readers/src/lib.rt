@@ -3,6 +3,8 @@
 // Proved: each function reads what the definition's rule gives (crates/definition/specs/Token.antt): item, payload and state.
 // Assumed: nothing but what each function's `requires` says: a reader stands in a sound state of a legal text, the choice
 // ends after it (`Chose`), and the class file is accepted where a literal is read.
+#![tactic(auto)]
+
 pub mod character_literals; // character_literals.rt: character literals, read
 
 ghost use Rattle.std.specs.Prelude.{◌≡◌, ◌+◌, ◌≤◌};

@@ -4,5 +4,7 @@
 // the definition's do is proved in crate `rules`), and what a place and a word decide is what the definition's rule gives,
 // where the choice was made (`Chose`) and the file's name is short enough.
 // Assumed: nothing but what each function's `requires` says: the place is one of the 50 or 0, and the word one of its table.
+#![tactic(auto)]
+
 pub mod table; // table.rt: the rule and the kind of each place
 pub mod plain; // plain.rt: tokens that their places and words decide

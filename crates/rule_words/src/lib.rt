@@ -4,6 +4,8 @@
 // payload and state. No payload is copied: each is a part of the text or a text of the tables.
 // Assumed: nothing but what each function's `requires` says: a reader stands in a sound state of a legal text, and the
 // choice ends after it (`Chose`; `worded`, which isn't lent the text, promises what it does where that holds).
+#![tactic(auto)]
+
 ghost use Rattle.definition.specs.Basics.{Bytes};
 ghost use Rattle.definition.specs.Tables.{constructors, uoperators};
 ghost use Rattle.definition.specs.Token.{ident, finish_word};

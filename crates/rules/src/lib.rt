@@ -9,6 +9,8 @@
 // (Tabling).
 // Assumed: nothing but what each function's `requires` says: a reader stands in a sound state of a legal text, between
 // comments, the choice is `select`'s, and the rule is its place's.
+#![tactic(auto)]
+
 pub mod finishes; // finishes.rt: actions carried out that were not written at once: tokens and errors with their positions
 
 ghost use Rattle.std.specs.Prelude.{◌≡◌, ◌≤◌, length};

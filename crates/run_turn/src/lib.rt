@@ -4,6 +4,8 @@
 // goes on. proofs/RunLaws.antt has the laws of a run that goes on, turn by turn.
 // Assumed: nothing but what each function's `requires` says: the run was not refused, it stands between two items
 // (`Between`), what stands ahead was found there (`StandsAhead`), and an item that is written fits (`ItemFits`).
+#![tactic(auto)]
+
 ghost use Rattle.std.specs.Prelude.{◌≡◌};
 ghost use Rattle.definition.specs.Item.{words};
 ghost use Rattle.definition.specs.Run.{put, run_turn};

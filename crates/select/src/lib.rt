@@ -6,6 +6,8 @@
 // BeyondAscii).
 // Assumed: nothing but what `select`'s `requires` says: a class file that `class_check` accepts, and the tables of operator
 // and of symbol characters.
+#![tactic(auto)]
+
 ghost use Rattle.std.specs.Prelude.{◌≡◌};
 ghost use Rattle.definition.specs.ClassFile.{class_check};
 ghost use Rattle.definition.specs.Select.{select};

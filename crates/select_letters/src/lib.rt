@@ -5,6 +5,8 @@
 // offset within any bytes.
 // Assumed: nothing but what each function's `requires` says: a class file that `class_check` accepts, the table of operator
 // characters, and a byte at the offset.
+#![tactic(auto)]
+
 ghost use Rattle.std.specs.Prelude.{◌≡◌, ◌<◌, length};
 ghost use Rattle.definition.specs.ClassFile.{class_check};
 ghost use Rattle.definition.specs.Chars.{ascii_table, op_char_cps};

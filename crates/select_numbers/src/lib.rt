@@ -3,6 +3,8 @@
 //
 // Proved: the answer of `at_digit` is what the definition's matchers give at those places, at any offset within any bytes.
 // Assumed: nothing but what each function's `requires` says: a class file that `class_check` accepts, and an integer's ends.
+#![tactic(auto)]
+
 ghost use Rattle.std.specs.Prelude.{◌≡◌};
 ghost use Rattle.definition.specs.ClassFile.{class_check};
 ghost use Rattle.definition.specs.Matchers.{later, match_int_suffix, match_int_usuffix};

@@ -6,6 +6,8 @@
 // Proved: the answer of each function is what the definition's matchers give, and the choice that is kept of it, at any offset
 // within any bytes.
 // Assumed: nothing but what each function's `requires` says: a class file that `class_check` accepts, and a byte at the offset.
+#![tactic(auto)]
+
 ghost use Rattle.std.specs.Prelude.{◌≡◌, ◌<◌, length};
 ghost use Rattle.definition.specs.ClassFile.{class_check};
 ghost use Rattle.definition.specs.Chars.{is_anywhite};

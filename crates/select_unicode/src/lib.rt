@@ -5,6 +5,8 @@
 // within any bytes.
 // Assumed: nothing but what each function's `requires` says: a class file that `class_check` accepts, and the table of operator
 // characters.
+#![tactic(auto)]
+
 ghost use Rattle.std.specs.Prelude.{◌≡◌};
 ghost use Rattle.definition.specs.ClassFile.{class_check};
 ghost use Rattle.definition.specs.Chars.{ascii_table, op_char_cps, is_anywhite, is_newline_char, is_ident_start, is_constructor_start, is_ident_char, is_uoperator};

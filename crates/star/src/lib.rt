@@ -6,6 +6,8 @@
 // `star` over characters.
 // Assumed: nothing but what each function's `requires` says: a class file that `class_check` accepts where a class is
 // asked, the table of operator or of symbol characters where one is used.
+#![tactic(auto)]
+
 pub mod blanks; // blanks.rt: runs of white space
 pub mod stops; // stops.rt: runs up to one of some characters, and the offset after a character
 

@@ -1,5 +1,7 @@
 // `start`, and whether a saved state is sound; of both runs. Proved: all are the definition's, for every number. Assumed: nothing but
 // what each function's `requires` says.
+#![tactic(auto)]
+
 ghost use Rattle.std.specs.Prelude.{◌≡◌};
 ghost use Rattle.definition.specs.State.{at_character, offsets_sound, counts_sound, depth_sound, comment_sound, sound, start, started};
 ghost use Rattle.definition.specs.Utf16.{by_second, utf16_start};

@@ -4,6 +4,8 @@
 // comment what its `comment` gives, item, payload and state, and a column that is known after it.
 // Assumed: nothing but what each function's `requires` says: a reader stands in a sound state of a legal text and hasn't
 // ended, what stands ahead was found there (crate `lookahead`), the class file is accepted, and the name is short enough.
+#![tactic(auto)]
+
 ghost use Rattle.definition.specs.Token.{next_token};
 ghost use Rattle.reader.specs.Described.{Reads};
 ghost use Rattle.reader.specs.Standing.{Standing};

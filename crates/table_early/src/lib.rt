@@ -3,6 +3,8 @@
 // Proved: the search answers what trying every word of the definition's table in turn gives, and each kind is the definition's.
 // That the constants below are the definition's words is computed from its table.
 // Assumed: nothing but what each function's `requires` says.
+#![tactic(auto)]
+
 ghost use Rattle.std.specs.Prelude.{◌≡◌, [], ◌<◌, get_or};
 ghost use Rattle.definition.specs.Kinds.{kind};
 ghost use Rattle.definition.specs.Tables.{early_literals, entry, words_of};

@@ -4,6 +4,8 @@
 // and only what no rule gives is in small tables. Proved: each kind and text is that of the definition's entry; that
 // the rules and the tables give what the definition's tables do is computed from them. Assumed: nothing but what each
 // function's `requires` says.
+#![tactic(auto)]
+
 ghost use Rattle.std.specs.Prelude.{◌≡◌, [], ◌<◌, ◌≤◌, length, get_or};
 ghost use Rattle.definition.specs.Kinds.{kind};
 ghost use Rattle.definition.specs.Tables.{entry};

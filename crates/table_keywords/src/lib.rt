@@ -8,6 +8,8 @@
 // Proved: a look-up gives the place at which the definition's table has the lexeme, or says that it has it nowhere; and that is
 // where the definition's `find` finds it (proofs/Finds.antt).
 // Assumed: nothing but what each function's `requires` says.
+#![tactic(auto)]
+
 pub mod lengths; // lengths.rt: whether a lexeme may be a keyword, by its first byte and its length
 pub mod constructors; // constructors.rt: constructors looked up by a whole lexeme
 pub mod reserved_prefix; // reserved_prefix.rt: whether an identifier begins with the reserved prefix

@@ -4,6 +4,8 @@
 // definition's. That the constants below are the definition's words is computed from its table.
 // Assumed: nothing but what each function's `requires` says: the table of operator characters where it is lent, and a number
 // of the table's words where one is asked about.
+#![tactic(auto)]
+
 ghost use Rattle.std.specs.Prelude.{◌≡◌, [], ◌<◌, length, get_or};
 ghost use Rattle.definition.specs.Chars.{ascii_table, op_char_cps, is_op_char};
 ghost use Rattle.definition.specs.Kinds.{kind};

@@ -4,6 +4,8 @@
 // Proved: the search answers what trying every word of the definition's table in turn gives. That the words in the code are the
 // definition's is computed from its table, as is which bytes an operator token begins with (proofs/Computed.antt).
 // Assumed: nothing.
+#![tactic(auto)]
+
 pub mod tokens_at; // tokens_at.rt: the operator tokens that begin with a byte, tried one after the other
 pub mod mixfix; // mixfix.rt: mixfix words, searched at an offset
 

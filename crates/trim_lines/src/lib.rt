@@ -4,6 +4,8 @@
 // Proved: the width is the definition's for the start column, the length is that of the trimmed piece, and the bytes written
 // are those of the trimmed piece; proofs/Trimming.antt has that they are what `maybe_trim_lines` gives.
 // Assumed: nothing but what each function's `requires` says.
+#![tactic(auto)]
+
 ghost use Rattle.std.specs.Prelude.{◌≡◌, ◌<◌, ◌≤◌, length};
 ghost use Rattle.definition.specs.Trim.{trim_width, split_lines};
 ghost use Rattle.reader.specs.Described.{trimmed};

@@ -6,6 +6,8 @@
 // numbers stay. Assumed: nothing but what each function's `requires` says.
 // Cost: a count goes on from the place that is known, so that a line's characters are read once over all of its items, and once more where
 // an error ends the run, whose range's end is counted before its start; and most records need none (plain.rt).
+#![tactic(auto)]
+
 pub mod places; // places.rt: the place of a line at a column
 pub mod plain; // plain.rt: records without a count
 

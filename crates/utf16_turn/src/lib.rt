@@ -4,6 +4,8 @@
 // Proved: a turn stops where the definition's turn of the first run does; else it writes the record of the definition's second step and
 // stands where that comes to (specs/Turning.antt). Assumed: nothing but what each function's `requires` says: the run was not refused, it
 // stands between two items, and the tables of operator and of symbol characters are lent.
+#![tactic(auto)]
+
 ghost use Rattle.std.specs.Prelude.{[], ◌≡◌, eqb};
 ghost use Rattle.definition.specs.Basics.{if◌then◌else◌};
 ghost use Rattle.run_turn.specs.Running.{Between};

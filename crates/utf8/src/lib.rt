@@ -2,6 +2,8 @@
 // Proved: `sequence_at` is the definition's, at any bytes and any offset, so no caller owes anything. proofs/Laws.antt has
 // the laws of reading a text: decoding against encoding, legal texts, boundaries.
 // Assumed: nothing.
+#![tactic(auto)]
+
 pub mod characters; // characters.rt: `byte`, and the UTF-8 check
 pub mod encoding; // encoding.rt: the bytes of a character
 
