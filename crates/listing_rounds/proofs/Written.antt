@@ -7,7 +7,6 @@ use Rattle.definition.specs.Basics.{Bytes}
 use Rattle.lemmas.specs.Over.{Wrote, over}
 use Rattle.either_run.specs.Either.{either_run, either_refusal}
 use Rattle.either_run.specs.declared.Saved.{Saved}
-use Rattle.listing_lines.specs.Line.{lines}
 use Rattle.listing_rounds.specs.Rounds.{Lists, Ends, listing}
 use Rattle.listing_rounds.specs.declared.rounds.Ending.TheVariants.{Refusal}
 use Rattle.listing_rounds.proofs.Whole.{round_lines, no_lines}
