@@ -1,10 +1,13 @@
 #!/usr/bin/env python3
 """Proves and builds a program of this repository: building.py NAME
 
-It has `rt check NAME` prove what isn't proved yet, the first time all crates that the program stands on, and build target/bin/NAME.
+It has `rt run` prove what isn't proved yet, the first time all crates that the program stands on, and build crates/NAME/out/NAME.
 From the first crate that had to be proved on, standard error says how many are: in one line that is rewritten where it is a
 terminal, else in a line now and then. Standard output stays empty. Where a proof fails, standard error has what `rt` said, and the
-exit status is 3; where there is no `rt` it is 2."""
+exit status is 3; where there is no `rt` it is 2.
+
+No command of `rt` builds a program and leaves it at that, so the program is run too: in its crate's folder, with no arguments and an
+empty input. What it writes then, and its exit status, are set aside."""
 import fcntl
 import getopt
 import os
@@ -17,8 +20,11 @@ import sys
 import time
 
 ROOT = pathlib.Path(__file__).resolve().parent.parent
-PROVED = re.compile(r"rt: \S+ proved \((.*)\)$")
-UNCHANGED = "unchanged since it was last proved"
+# How the lines begin that end the check of a crate, of which the first names it and the second says that all of it is proved; and the line
+# that comes once the program is built.
+CHECKED = re.compile(r"crate (\w+): modules ")
+PROVED = "logic=proved "
+RUNNING = "rt: running "
 SECONDS_BETWEEN_LINES = 15
 
 
@@ -81,32 +87,31 @@ def parsed(words, usage, options, most=None):
 
 
 class Progress:
-    """How many crates are proved, said on standard error from the first on that was not found unchanged."""
+    """How many crates of a program are proved, said on standard error from the first on that had to be."""
 
-    def __init__(self, total):
-        self.total = total
-        self.proved = 0
-        self.anew = False
+    def __init__(self, name):
+        self.total = len(crates_of(name))
+        self.proved = set()
         self.said = 0
         self.due = 0.0
         self.rewrites = sys.stderr.isatty()
 
-    def count(self, unchanged):
-        self.proved += 1
-        self.anew = self.anew or not unchanged
-        if self.anew and (self.rewrites or self.due <= time.monotonic()):
+    def count(self, crate):
+        """Counts a crate that was proved just now, and those that it stands on: of these `rt` names none that it finds unchanged."""
+        self.proved |= crates_of(crate)
+        if self.rewrites or self.due <= time.monotonic():
             self.show()
 
     def show(self):
-        line = b"proved %d of %d crates" % (self.proved, self.total)
+        line = b"proved %d of %d crates" % (len(self.proved), self.total)
         write(sys.stderr, b"\r" + line if self.rewrites else line + b"\n")
-        self.said = self.proved
+        self.said = len(self.proved)
         self.due = time.monotonic() + SECONDS_BETWEEN_LINES
 
     def end(self):
-        if self.anew and self.said < self.proved:
+        if self.said < len(self.proved):
             self.show()
-        if self.anew and self.rewrites:
+        if self.said and self.rewrites:
             write(sys.stderr, b"\n")
 
 
@@ -127,36 +132,45 @@ def crates_of(name):
     return found
 
 
-def check(name, progress):
-    """What `rt check NAME` says, and its exit status; each crate that it has proved is counted as soon as it says so."""
-    said = []
-    words = ["rt", "check", name]
-    with subprocess.Popen(words, cwd=ROOT, stdin=subprocess.DEVNULL, stdout=subprocess.PIPE, stderr=subprocess.STDOUT) as running:
-        for line in running.stdout:
-            said.append(os.fsdecode(line))
-            proved = PROVED.match(said[-1])
-            if proved:
-                progress.count(proved[1] == UNCHANGED)
-    return "".join(said), running.returncode
+def program_of(name):
+    """Where a program of this repository stands once it is built."""
+    return ROOT / "crates" / name / "out" / name
+
+
+def build(name, progress):
+    """What `rt run` says of a program, and whether that is proved and built. Each crate is counted as soon as it is said to be proved."""
+    said, checked, is_built = [], None, False
+    folder, nothing = os.fspath(ROOT / "crates" / name), subprocess.DEVNULL
+    with subprocess.Popen(["rt", "run"], cwd=folder, stdin=nothing, stdout=nothing, stderr=subprocess.PIPE) as running:
+        for line in map(os.fsdecode, running.stderr):
+            said.append(line)
+            named = CHECKED.match(line)
+            if named:
+                checked = named[1]
+            elif line.startswith(PROVED) and checked:
+                progress.count(checked)
+            is_built = is_built or line.startswith(RUNNING)
+    # A status above 0 is the program's own where that was run.
+    return "".join(said), is_built or not running.returncode
 
 
 def built(name):
     """The path of a program of this repository, which is proved and built."""
     if shutil.which("rt") is None:
         raise Failure("no `rt` on the path: the Rattle toolchain is needed to prove and build the program `%s`" % name, 2)
-    progress = Progress(len(crates_of(name)))
+    progress = Progress(name)
     with open(ROOT / "crates.txt") as lock:
-        # Two checks at once write to the same files of target/, and fail even where nothing is to be proved.
+        # `rt` lets go of its own lock before it runs the program, whose file a second build would write to meanwhile.
         fcntl.flock(lock, fcntl.LOCK_EX)
         try:
-            said, status = check(name, progress)
+            said, is_built = build(name, progress)
         finally:
             progress.end()
-    if status:
-        raise Failure(said.rstrip("\n") or "`rt check %s` failed without a word" % name, 3)
-    program = ROOT / "target" / "bin" / name
+    if not is_built:
+        raise Failure(said.rstrip("\n") or "`rt run` of the program `%s` failed without a word" % name, 3)
+    program = program_of(name)
     if not program.exists():
-        raise Failure("`rt check %s` left no program target/bin/%s" % (name, name), 3)
+        raise Failure("`rt run` left no program %s" % program.relative_to(ROOT), 3)
     return program
 
 

@@ -2,7 +2,7 @@
 // definition's test, or the part of one that specs/Parts.antt names.
 // Assumed: nothing.
 ghost use Rattle.std.specs.Prelude.{◌≡◌};
-ghost use Rattle.definition.specs.Basics.{between as between-codes};
+ghost use Rattle.definition.specs.Basics.{between as between_codes_spec};
 ghost use Rattle.definition.specs.Chars.{is_digit, is_hex, is_newline_char};
 ghost use Rattle.chars.specs.Parts.{ascii_ident_char, listed_white};
 
@@ -12,14 +12,14 @@ pub const QUOTE: u32 = 39;
 
 // c is one of the code points from `first` to `last`.
 pub fn between_codes(first: u32, last: u32, c: u32) -> bool
-    ensures { result ≡ between-codes first last c }
+    ensures { result ≡ between_codes_spec first last c }
 {
     first <= c && c <= last
 }
 
 // The same where both ends fit a byte, as b'a' does.
 pub fn between(first: u8, last: u8, c: u32) -> bool
-    ensures { result ≡ between-codes first last c }
+    ensures { result ≡ between_codes_spec first last c }
 {
     between_codes(first as u32, last as u32, c)
 }

@@ -9,7 +9,7 @@
 --   let x = e in g         g, in which x stands for e
 --   (a, b, c), A × B × C   a tuple and its type; `.0`, `.1`, `.2` are its parts, and `.line` the part of that name of a struct
 --   a ∷ l, [], l ++ m      a list: its first element and the others, none, two one after the other
---   match-ident            a name: the source's `match_ident`; a `-` with blanks around it is the difference of two numbers, 0 at least
+--   match_ident            a name, the source's own; `a - b` is the difference of two numbers, 0 at least
 --   a ≡ b                  a and b are equal, which is a type: what has it is a proof
 use Rattle.std.specs.Prelude.{ℕ, zero, suc, Bool, true, false, ◌&&◌, List, [], ◌∷◌, leb, eqb, length}
 use Prim.Native.Char.{Char, code}

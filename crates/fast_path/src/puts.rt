@@ -22,6 +22,9 @@ use reader::actions::Action;
 use reader::{Cursor, Payload, short_length};
 use record::write_token;
 
+// How many numbers have to be free for one more record.
+const NEEDED: usize = RECORD;
+
 // What became of an action: it was left, or it was a token and is written, after which reading goes on with so many payload
 // bytes used and with a part of the text that is known to be ASCII.
 #[derive(Clone, Copy)]
@@ -85,7 +88,7 @@ fn put_token(
     requires { TokenAsks text.now here start to payload first used plain records.old bytes.old }
     ensures { Puts text.now here (Token kind start to payload) first used records.old bytes.old result records.new bytes.new }
 {
-    if records.len() - first < RECORD {
+    if records.len() - first < NEEDED {
         return PutResult::Left;
     }
     let Match::To(size) = short_length(payload) else {

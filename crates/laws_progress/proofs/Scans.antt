@@ -1,6 +1,6 @@
 -- The loops over characters, bytes and digits move on and have fuel enough: for each, what a turn does, that more fuel or
 -- another `out` changes nothing, and that it is what its first turn says. Rests on the laws of loops, walks and matchers.
-use Prim.Native.Nat.{ℕ, suc, ◌+◌, ◌-◌, ◌/◌, ◌≤◌, ◌<◌}
+use Prim.Native.Nat.{ℕ, suc, ◌+◌, ◌-◌, ◌≤◌, ◌<◌}
 use mathlib.Core.Path.{◌≡◌, refl, sym, subst, ◌∙◌}
 use mathlib.Core.Bool.{Bool, true, ◌&&◌}
 use mathlib.Core.List.{[]}

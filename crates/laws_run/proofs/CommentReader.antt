@@ -1,6 +1,6 @@
 -- Comments: one walk over a turn of `comment`, in which the state goes on by a path. From it that its fuel never runs out, and that what
 -- it gives is a piece; and a line's comment. Rests on paths and forms, and on the ends of matchers and runs (crate `laws_progress`).
-use Prim.Native.Nat.{ℕ, ◌+◌, ◌-◌, ◌*◌, ◌≤◌, ◌<◌}
+use Prim.Native.Nat.{ℕ, ◌+◌, ◌-◌, ◌≤◌, ◌<◌}
 use mathlib.Core.Path.{◌≡◌, refl, ◌∙◌}
 use mathlib.Core.Bool.{Bool, true, false, not, ◌&&◌}
 use mathlib.Core.List.{◌++◌}

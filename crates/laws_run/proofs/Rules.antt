@@ -1,6 +1,6 @@
 -- The one walk over the rules: what each does with a choice is skipped, or gives an item of a form that is known (Forms). Rests on the
 -- forms of what the readers give, and on what `no_comment` leaves (crate `laws_progress`).
-use Prim.Native.Nat.{ℕ, ◌+◌, ◌-◌, ◌≤◌, ◌<◌}
+use Prim.Native.Nat.{ℕ, ◌+◌, ◌-◌, ◌≤◌}
 use Prim.Native.String.{String}
 use mathlib.Core.Path.{◌≡◌, refl}
 use mathlib.Core.Bool.{true, not}

@@ -115,7 +115,8 @@ pub fn run(
     ensures every_reading { LongestEverywhere text.now name.now classes.now st result }
 {
     let refused = refusal(text, name, classes, st);
-    if refused.number != 0 {
+    let taken = refused.number == 0;
+    if !taken {
         return RunAnswer {
             refusal: refused.number,
             offset: refused.offset,

@@ -77,7 +77,8 @@ pub fn run(
     ensures every_reading { LongestEverywhere text.now name.now classes.now g result }
 {
     let refused = utf16_refusal(text, name, classes, g);
-    if refused.number != 0 {
+    let taken = refused.number == 0;
+    if !taken {
         return Utf16RunAnswer {
             refusal: refused.number,
             offset: refused.offset,

@@ -1,8 +1,8 @@
 // What stands ahead of a reader: the choice after white space and line ends, with its rule, and the item that it leads to.
 //
-// Proved: from where `look` stands the definition's `next_token` gives the same item, and gives it there (`Chosen-at`); the
+// Proved: from where `look` stands the definition's `next_token` gives the same item, and gives it there (`chosen_at`); the
 // choice is the definition's `select` there, and the rule is its place's; the type leaves no room for white space and line ends.
-// What the next item is is said in specs/Lookahead.antt (`Ahead-step`).
+// What the next item is is said in specs/Lookahead.antt (`ahead_step`).
 // Assumed: nothing but what `look`'s `requires` says: a reader stands in a sound state of a legal text, between comments, and
 // the class file and the tables of operator and of symbol characters are lent.
 #![tactic(auto)]

@@ -10,6 +10,7 @@ pub enum Block {
 }
 
 // The blocks of some scripts that have no small letters, of punctuation, and of mathematical operators.
+#[tactic(auto, using(crate::proofs::WithoutLetters::empty_23, crate::proofs::WithoutLetters::empty_128, crate::proofs::WithoutLetters::empty_135, crate::proofs::WithoutLetters::empty_181, crate::proofs::WithoutLetters::empty_687))]
 fn without_letters(k: u32) -> Block
     ensures { Tells k result }
 {

@@ -11,6 +11,9 @@ ghost use Rattle.std.specs.Prelude.{◌≡◌, ltb, drop};
 ghost use Rattle.definition.specs.Numbers.{digit_value, base_of, value_from, int_of_string};
 ghost use Rattle.number_value.specs.NumeralContracts.{Base};
 
+// The largest number that fits a byte.
+const LARGEST_BYTE: u32 = 255;
+
 // The value of a digit of any base.
 pub fn digit_value(b: u8) -> u32
     ensures { result ≡ digit_value b }
@@ -51,7 +54,7 @@ fn digits_above_255(number: &[u8], from: usize, base: u32) -> bool
     let mut i = from;
     while i < number.len() {
         n = n * base + digit_value(number[i]);
-        if 255 < n {
+        if LARGEST_BYTE < n {
             return true;
         }
         i += 1;

@@ -13,6 +13,14 @@ use definition::{State, Utf16State};
 use state::{by_second, sound};
 use utf8::characters::first_bad;
 
+// The lengths up to which a text and a name are taken.
+const LONGEST_TEXT: usize = 1048576;
+
+const LONGEST_NAME: usize = 4096;
+
+// The mode of a state inside a comment.
+const IN_COMMENT: u32 = 1;
+
 // A refusal number, and for ill-formed UTF-8 the first offset where no legal sequence starts; 0 and 0 where nothing is refused.
 #[derive(Clone, Copy)]
 pub struct Refused {
@@ -48,10 +56,10 @@ fn text_refusal(text: &[u8], st: State) -> Refused
 pub fn refusal(text: &[u8], name: &[u8], classes: &[u8], st: State) -> Refused
     ensures { (result.number, result.offset) ≡ refusal text.now name.now classes.now st }
 {
-    if 1048576 < text.len() {
+    if LONGEST_TEXT < text.len() {
         return refuse(6, 0);
     }
-    if 4096 < name.len() {
+    if LONGEST_NAME < name.len() {
         return refuse(7, 0);
     }
     let checked = class_check(classes);
@@ -69,7 +77,7 @@ fn line_zero(g: Utf16State) -> bool
     if first.line == 0 {
         return true;
     }
-    if first.mode == 1 {
+    if first.mode == IN_COMMENT {
         return first.comment.line == 0;
     }
     false

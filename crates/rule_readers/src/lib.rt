@@ -15,7 +15,7 @@ ghost use Rattle.definition.specs.Position.{cur_pos};
 ghost use Rattle.definition.specs.State.{advance, open_comment};
 ghost use Rattle.definition.specs.Comment as source;
 ghost use Rattle.definition.specs.Strings.{string_lit};
-ghost use Rattle.definition.specs.Blob as blob-source;
+ghost use Rattle.definition.specs.Blob as blob_source;
 ghost use Rattle.definition.specs.Token.{blob_header};
 ghost use Rattle.read_comment.specs.LineCommentContracts.{ReadsAny};
 ghost use Rattle.reader.specs.Described.{Reads};
@@ -89,7 +89,7 @@ fn header_at(text: &[u8], at: Cursor, e: usize, n: usize) -> Header
 // A blob between backticks.
 pub fn fenced(text: &[u8], name: &[u8], at: Cursor, e: usize) -> Read
     requires { Chose text.now at e }
-    ensures { (f : Bytes) → Reads text.now name.now f (blob-source.blob text.now (blob_header text.now at.st e 3) (advance at.st e)) result }
+    ensures { (f : Bytes) → Reads text.now name.now f (blob_source.blob text.now (blob_header text.now at.st e 3) (advance at.st e)) result }
 {
     blob(text, name, header_at(text, at, e, 3), moved(at, e))
 }
@@ -97,7 +97,7 @@ pub fn fenced(text: &[u8], name: &[u8], at: Cursor, e: usize) -> Read
 // The text of another language.
 pub fn language(text: &[u8], name: &[u8], at: Cursor, e: usize) -> Read
     requires { Chose text.now at e }
-    ensures { (f : Bytes) → Reads text.now name.now f (blob-source.use_lang text.now (blob_header text.now at.st e 6) (advance at.st e)) result }
+    ensures { (f : Bytes) → Reads text.now name.now f (blob_source.use_lang text.now (blob_header text.now at.st e 6) (advance at.st e)) result }
 {
     use_lang(text, name, header_at(text, at, e, 6), moved(at, e))
 }

@@ -19,6 +19,9 @@ use reader::{Cursor, Read, length_of};
 use record::write_record;
 use step::read;
 
+// How many numbers have to be free for one more record.
+const NEEDED: usize = RECORD;
+
 // What a turn of a run did: it stopped, for document 01's reason, or it wrote an item, after which reading goes on with so
 // many payload bytes used.
 #[derive(Clone, Copy)]
@@ -65,11 +68,12 @@ pub fn turn(
     ensures { Ran text.now (run_turn text.now name.now classes.now (writing at count used records.old payload.old)) count at.st result records.new payload.new }
 {
     let st = at.st;
-    if st.mode == 2 {
+    let ended = st.mode == 2;
+    if ended {
         return TurnResult::Stop(0);
     }
     let first = RECORD * count;
-    if records.len() - first < RECORD {
+    if records.len() - first < NEEDED {
         return TurnResult::Stop(1);
     }
     let r = read(text, name, classes, here, ahead);

@@ -5,7 +5,7 @@ use Rattle.std.specs.Prelude.{ℕ, ◌+◌, true, false, eqb}
 use Rattle.definition.specs.Basics.{Bytes}
 use Rattle.definition.specs.Text.{star}
 use Rattle.definition.specs.Chars.{is_op_char, is_symbolchar, is_ident_start, is_constructor_start, is_ident_char, is_anywhite, is_newline_char, is_uoperator}
-use Rattle.definition.specs.Tables.{cps, early_literals, kw_op_rules, op_tokens, mixfix_rules, words_of, kw_op_words}
+use Rattle.definition.specs.Tables.{cps, early_literals, op_tokens, mixfix_rules, words_of, kw_op_words}
 use Rattle.definition.specs.Matchers.{
   ◌then◌,
   later,

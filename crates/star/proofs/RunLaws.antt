@@ -6,9 +6,6 @@ use mathlib.Core.Bool.{Bool, true, false, ◌||◌, false≢true}
 use mathlib.Core.List.{List, [], ◌∷◌, ◌++◌}
 use native.Mathlib.Nat.{add-zero}
 use native.Mathlib.Omega.{arith}
-use mathlib.Core.Logic.{⊎_elim}
-use types.Run.{OneOf}
-use denote.Enum.Declared.{tag_of}
 use lib.Dec.{ltb, leb, eqb}
 use lib.ListN.{length, get_or, drop}
 use lib.Seq.{get_or-drop}
@@ -19,7 +16,6 @@ use Rattle.definition.specs.Text.{with_char, byte_has, star}
 use Rattle.definition.specs.Chars.{ascii_limit, ascii_table, in_table, op_char_cps, symbolchar_cps, is_op_char, is_symbolchar, is_ident_char}
 use Rattle.definition.specs.Matchers.{only, one, plus}
 use Rattle.definition.specs.declared.Sequence.{Sequence}
-use Rattle.definition.specs.contracts.Sequence.{the_type}
 use Rattle.definition.specs.declared.Sequence.TheVariants.{Char, Bad, End}
 use Rattle.definition.specs.declared.Match.{Match}
 use Rattle.definition.specs.declared.Match.TheVariants.{To, Nothing}

@@ -3,9 +3,6 @@
 use Prim.Native.Nat.{ℕ, ◌+◌}
 use mathlib.Core.Path.{◌≡◌, refl, sym, ap, subst, fun_ext}
 use mathlib.Core.Bool.{Bool, true, false, not, ◌||◌}
-use mathlib.Core.List.{[], ◌∷◌}
-use types.Run.{OneOf}
-use denote.Enum.Declared.{tag_of}
 use lib.Dec.{eqb}
 use Rattle.definition.specs.Basics.{Bytes, ch}
 use Rattle.definition.specs.Utf8.{sequence_at}
@@ -13,7 +10,6 @@ use Rattle.definition.specs.Text.{with_char, star, run_end, after}
 use Rattle.definition.specs.Chars.{is_newline_char}
 use Rattle.definition.specs.declared.Sequence.{Sequence}
 use Rattle.definition.specs.declared.Sequence.TheVariants.{Char}
-use Rattle.definition.specs.contracts.Sequence.{the_type}
 use Rattle.lemmas.proofs.Cases.{by_outcome}
 use Rattle.utf8.proofs.Reading.{NoChar, with_none}
 use Rattle.star.proofs.RunLaws.{no_char}

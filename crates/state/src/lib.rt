@@ -8,6 +8,11 @@ ghost use Rattle.definition.specs.Utf16.{by_second, utf16_start};
 
 use definition::{Pos, StartAnswer, State, Utf16StartAnswer, Utf16State};
 
+// The largest line and the largest column that a start takes.
+const LARGEST_LINE: u32 = 1000000;
+
+const LARGEST_COLUMN: u32 = 1000000;
+
 // The state at the beginning of a text, at a line and a column.
 fn started(line: u32, column: u32) -> State
     ensures { result ≡ started line column }
@@ -28,14 +33,14 @@ fn started(line: u32, column: u32) -> State
 pub fn start(line: u32, column: u32) -> StartAnswer
     ensures { result ≡ start line column }
 {
-    if 1000000 < line {
+    if LARGEST_LINE < line {
         let zeros = started(0, 0);
         return StartAnswer {
             refusal: 1,
             state: zeros,
         };
     }
-    if 1000000 < column {
+    if LARGEST_COLUMN < column {
         let zeros = started(0, 0);
         return StartAnswer {
             refusal: 2,

@@ -59,7 +59,8 @@ fn read_choice(
     ensures { Reads text.now name.now classes.now (next_token text.now name.now classes.now at.st) result }
 {
     let st = at.st;
-    if text.len() <= st.offset as usize {
+    let at_end = text.len() <= st.offset as usize;
+    if at_end {
         return end_of_text(text, name, at);
     }
     act(text, name, classes, at, choice, rule)

@@ -61,6 +61,9 @@ const TEXT_STARTS: [u8; 34] = [
 const TEXTS: [u8; 99] =
     *b"'a'b'c'd'e'f'g'h'i'k'm'n'p'q'r's't'u'w'x'znatintboolTrueFalse~\xc3\xb7||op_Star*=>>=<=<><<<|\xc2\xb1\xe2\x88\x81\xe2\x88\x82\xe2\x88\x9a~<";
 
+// The first of the entries that are names of variables.
+const FIRST_VARIABLE: usize = 66;
+
 // A byte as a number.
 fn wide(x: u8) -> usize
     ensures { result ≡ x }
@@ -76,7 +79,7 @@ pub fn kind_at(k: usize) -> u32
     if k < 21 {
         return k as u32 + 1;
     }
-    if k < 66 {
+    if k < FIRST_VARIABLE {
         return k as u32;
     }
     if k < 89 {

@@ -8,6 +8,9 @@ use crate::{LineStart, Place, Tally};
 use definition::Sequence;
 use utf8::sequence_at;
 
+// The last code point that UTF-16 writes in one unit.
+const LAST_OF_ONE_UNIT: u32 = 0xFFFF;
+
 // A character's bytes and units; both are 0 where none stands.
 #[derive(Clone, Copy)]
 pub struct CharSize {
@@ -19,7 +22,7 @@ pub struct CharSize {
 fn units_of(c: u32) -> u32
     ensures { result ≡ utf16 c }
 {
-    if 0xFFFF < c {
+    if LAST_OF_ONE_UNIT < c {
         return 2;
     }
     1

@@ -8,6 +8,9 @@ ghost use Rattle.definition.specs.Text.{byte, first_bad};
 use crate::sequence_at;
 use definition::{Octet, Sequence};
 
+// A byte below it is ASCII.
+const ASCII_LIMIT: u8 = 0x80;
+
 // The byte at i.
 pub fn byte(text: &[u8], i: usize) -> Octet
     ensures { result ≡ byte text.now i }
@@ -25,7 +28,7 @@ pub fn first_bad(text: &[u8]) -> usize
 {
     let mut i = 0;
     while i < text.len() {
-        if text[i] < 0x80 {
+        if text[i] < ASCII_LIMIT {
             i += 1;
             continue;
         }

@@ -1,5 +1,5 @@
 use native.Mathlib.Omega.{arith}
-use Prim.Native.Nat.{◌-◌, ◌+◌}
+use Prim.Native.Nat.{◌+◌}
 use mathlib.Core.Logic.{inl, inr}
 use Rattle.number_value.proofs.Values.{digit_small}
 use Rattle.escapes.proofs.Hex.{most_small, hexed_starts, hexed_goes_on, hexed_ends}

@@ -31,8 +31,7 @@ slice_bounds-line_into-start-in-loop-k c =
 
 pub line_into-at-requires : goal.line_into-at-requires
 line_into-at-requires c =
-    let i = c.loop-k.invariant in
-    (
+    let i = c.loop-k.invariant in (
       simp (length-take, length-drop) (omega (arith, c.requires.records, c.loop-k-test.true)),
       omega (arith, tail_size c.loop-k.out c.loop-k.at, lined_length i.0 (omega (arith, i.1, c.requires.lines)), i.0.short, c.requires.lines, c.loop-k-test.true),
     )

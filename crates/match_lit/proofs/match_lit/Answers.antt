@@ -1,4 +1,3 @@
-use Prim.Native.Nat.{◌-◌}
 use mathlib.Core.Path.{refl, sym, ◌∙◌}
 use Rattle.match_lit.proofs.ByteLaws.{has_inside, lit_on, lit_stop, lit_done}
 use native.Mathlib.Omega.{arith}

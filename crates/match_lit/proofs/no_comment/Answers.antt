@@ -1,4 +1,3 @@
-use Prim.Native.Nat.{◌-◌}
 use mathlib.Core.Path.{refl, sym, ◌∙◌}
 use Rattle.match_lit.proofs.ByteLaws.{cut_end, cut_here, cut_on}
 use native.Mathlib.Omega.{arith}

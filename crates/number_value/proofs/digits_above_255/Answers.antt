@@ -1,5 +1,4 @@
 use native.Mathlib.Omega.{arith}
-use Prim.Native.Nat.{◌-◌}
 use Rattle.number_value.proofs.Values.{digit_small, product_small, reading_starts, reading_goes_on, reading_stops, reading_ends}
 use Rattle.number_value.proofs.digits_above_255.Goals as goal
 
@@ -13,14 +12,14 @@ pub overflow_add-n : goal.overflow_add-n
 overflow_add-n c =
     omega (arith, product_small _ _ c.loop-i.invariant.small c.requires, digit_small _ _ c.digit_value.ensures, c.type_inv.number c.loop-i.i)
 
-pub returns-then-n-gt255 : goal.returns-then-n-gt255
-returns-then-n-gt255 c =
-    reading_stops c.loop-i.invariant c.requires c.loop-i-test.true (rw c.digit_value.ensures at c.if-n-gt255.true)
+pub returns-then-n-gt-LARGEST_BYTE : goal.returns-then-n-gt-LARGEST_BYTE
+returns-then-n-gt-LARGEST_BYTE c =
+    reading_stops c.loop-i.invariant c.requires c.loop-i-test.true (rw c.digit_value.ensures at c.if-n-gt-LARGEST_BYTE.true)
 
 pub loop-i-preserved : goal.loop-i-preserved
 loop-i-preserved c =
     rw c.digit_value.ensures
-    (reading_goes_on c.loop-i.invariant c.loop-i-test.true (rw c.digit_value.ensures at c.if-n-gt255.false))
+    (reading_goes_on c.loop-i.invariant c.loop-i-test.true (rw c.digit_value.ensures at c.if-n-gt-LARGEST_BYTE.false))
 
 pub returns : goal.returns
 returns c = reading_ends c.loop-i.invariant c.loop-i-test.false

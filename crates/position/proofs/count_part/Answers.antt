@@ -1,5 +1,5 @@
 use native.Mathlib.Omega.{arith}
-use Prim.Native.Nat.{◌-◌, ◌≤◌}
+use Prim.Native.Nat.{◌≤◌}
 use Rattle.position.proofs.Counting.{unit_is, unit_small, counted_small, counting_starts, counting_goes_on, counting_ends}
 use Rattle.position.proofs.count_part.Goals as goal
 

@@ -1,5 +1,4 @@
 use native.Mathlib.Omega.{arith}
-use Prim.Native.Nat.{◌-◌}
 use Rattle.position.proofs.Counting.{counted_small, counting_starts, counting_goes_to, counting_ends}
 use Rattle.position.proofs.count_parts.Goals as goal
 

@@ -5,8 +5,8 @@ use Rattle.refusal.proofs.line_zero.Goals as goal
 pub returns-then-first-eq0 : goal.returns-then-first-eq0
 returns-then-first-eq0 c = state_line_zero _ c.if-first-eq0.true
 
-pub returns-then-first-eq1 : goal.returns-then-first-eq1
-returns-then-first-eq1 c = comment_line_zero _ c.if-first-eq0.false c.if-first-eq1.true
+pub returns-then-first-eq-IN_COMMENT : goal.returns-then-first-eq-IN_COMMENT
+returns-then-first-eq-IN_COMMENT c = comment_line_zero _ c.if-first-eq0.false c.if-first-eq-IN_COMMENT.true
 
 pub returns : goal.returns
-returns c = no_line_zero _ c.if-first-eq0.false c.if-first-eq1.false
+returns c = no_line_zero _ c.if-first-eq0.false c.if-first-eq-IN_COMMENT.false

@@ -1,4 +1,3 @@
-use Prim.Native.Nat.{◌-◌}
 use mathlib.Core.Path.{sym, ap, ◌∙◌}
 use Rattle.definition.specs.Utf8.{encode, encode_all}
 use Rattle.definition.specs.Tables.{cps, early_literals, words_of}

@@ -14,9 +14,9 @@ pub returns-then-k-lt21 : goal.returns-then-k-lt21
 unfolding entries keywords constructors uoperators op_tokens mixfix_rules kind kind_names number_from
 returns-then-k-lt21 c = each_from (λ (k : ℕ). k + 1) (λ (k : ℕ). kind (entry entries k).kind) 0 21 refl c.args.k (omega arith) (omega arith)
 
-pub returns-then-k-lt66 : goal.returns-then-k-lt66
+pub returns-then-k-lt-FIRST_VARIABLE : goal.returns-then-k-lt-FIRST_VARIABLE
 unfolding entries keywords constructors uoperators op_tokens mixfix_rules kind kind_names number_from
-returns-then-k-lt66 c = each_from (λ (k : ℕ). k) (λ (k : ℕ). kind (entry entries k).kind) 21 45 refl c.args.k (omega arith) (omega arith)
+returns-then-k-lt-FIRST_VARIABLE c = each_from (λ (k : ℕ). k) (λ (k : ℕ). kind (entry entries k).kind) 21 45 refl c.args.k (omega arith) (omega arith)
 
 pub returns-then-k-lt89 : goal.returns-then-k-lt89
 unfolding entries keywords constructors uoperators op_tokens mixfix_rules kind kind_names number_from

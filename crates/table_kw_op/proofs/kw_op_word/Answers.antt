@@ -1,4 +1,3 @@
-use Prim.Native.Nat.{◌-◌}
 use mathlib.Core.Path.{refl, sym, ◌∙◌}
 use Rattle.definition.specs.Utf8.{encode, encode_all}
 use Rattle.definition.specs.Tables.{cps, kw_op_rules}

@@ -1,10 +1,9 @@
-use Prim.Native.Nat.{ℕ, ◌<◌, ◌+◌, ◌-◌, ◌≤◌, ◌*◌}
-use mathlib.Core.Bool.{false}
+use Prim.Native.Nat.{ℕ, ◌<◌, ◌+◌, ◌≤◌, ◌*◌}
 use mathlib.Core.Path.{◌≡◌, refl, sym, ◌∙◌}
 use native.Mathlib.Omega.{arith}
 use lib.ListN.{length, drop}
 use Rattle.definition.specs.Basics.{Bytes}
-use Rattle.definition.specs.ClassFile.{ranges_of, class_start, class_count, little_endian, ascending}
+use Rattle.definition.specs.ClassFile.{ranges_of, class_start, class_count, little_endian}
 use Rattle.class_file.proofs.Ranges.{ascending_next, ascending_fails, ascending_end, Reads}
 use Rattle.class_file.proofs.Accepted.{laid, class_within, length_ranges, first_read, last_read}
 use Rattle.class_file.proofs.check.class_ascends.Goals as goal

@@ -1,11 +1,9 @@
 use Prim.Native.Nat.{ℕ, ◌+◌, ◌-◌, ◌*◌, ◌/◌, ◌≤◌, ◌<◌}
-use mathlib.Core.Bool.{true}
 use mathlib.Core.Path.{◌≡◌, sym, ◌∙◌}
 use native.Mathlib.Omega.{arith}
 use lib.ListN.{length}
 use Rattle.definition.specs.Basics.{Bytes}
 use Rattle.definition.specs.ClassFile.{ranges_of, class_start, class_check}
-use Rattle.class_file.specs.Ends.{first_at, last_at}
 use Rattle.class_file.proofs.SearchLaws.{Narrowed, narrow_start, narrow_none, narrow_high, narrow_low, narrow_found}
 use Rattle.class_file.proofs.Accepted.{accepted, length_ranges, first_read, last_read}
 use Rattle.class_file.proofs.members.find_range.Goals as goal

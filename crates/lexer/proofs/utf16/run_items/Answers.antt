@@ -8,15 +8,14 @@ pub loop-stop-init : goal.loop-stop-init
 loop-stop-init c = (rw c.cursor_at-at.ensures (utf16_starts _ _ _ _ _ _ c.requires), refl, refl)
 
 pub turn-requires : goal.turn-requires
-turn-requires c =
-    (
-      turn_asked c.loop-stop.invariant.0,
-      record {
-        classes = c.loop-stop.invariant.0.going.between.accepted;
-        operators = c.op_char_table-ops.ensures;
-        symbolchars = c.symbolchar_table-symbols.ensures;
-      },
-    )
+turn-requires c = (
+  turn_asked c.loop-stop.invariant.0,
+  record {
+    classes = c.loop-stop.invariant.0.going.between.accepted;
+    operators = c.op_char_table-ops.ensures;
+    symbolchars = c.symbolchar_table-symbols.ensures;
+  },
+)
 
 pub overflow_cast-result : goal.overflow_cast-result
 overflow_cast-result c = omega (arith, c.loop-stop.invariant.0.going.between.kept.few)

@@ -1,4 +1,3 @@
-use Prim.Native.Nat.{◌-◌}
 use mathlib.Core.Path.{refl, sym, ◌∙◌}
 use Rattle.match_lit.proofs.ByteLaws.{twice_inside}
 use Rattle.matchers.proofs.QuoteLaws.{ident_on, ident_no, ident_empty, ident_open, ident_found, part_past}

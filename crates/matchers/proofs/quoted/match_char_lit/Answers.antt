@@ -1,6 +1,5 @@
 -- `match_char_lit` is the definition's `match_char_lit`, test by test. Each byte that is tested is the text's, so the sums fit.
 use mathlib.Core.Path.{sym, ◌∙◌}
-use borrow.Author.Tests.{not-true, not-false}
 use Rattle.definition.specs.Matchers.{match_char_lit}
 use Rattle.match_lit.proofs.ByteLaws.{has_inside}
 use native.Mathlib.Omega.{arith}

@@ -1,4 +1,3 @@
-use Prim.Native.Nat.{◌-◌}
 use mathlib.Core.Path.{sym, ◌∙◌}
 use Rattle.number_value.proofs.Stripping.{left_starts, left_goes_on, left_stops, left_ends}
 use Rattle.number_value.proofs.cleaning.strip_left.Goals as goal

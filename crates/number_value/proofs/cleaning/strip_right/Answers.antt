@@ -1,4 +1,3 @@
-use Prim.Native.Nat.{◌-◌}
 use mathlib.Core.Path.{sym, ◌∙◌}
 use Rattle.number_value.proofs.Stripping.{right_starts, right_goes_on, right_stops, right_ends}
 use Rattle.number_value.proofs.cleaning.strip_right.Goals as goal

@@ -1,4 +1,3 @@
-use Prim.Native.Nat.{◌-◌}
 use borrow.Author.Tests.{ltb-true}
 use Rattle.position.proofs.Ascii.{joined_starts, joined_goes_on, joined_ends}
 use Rattle.position.proofs.ascii_runs.ascii_block.Goals as goal

@@ -1,4 +1,3 @@
-use Prim.Native.Nat.{◌-◌}
 use Rattle.table_words.proofs.Prefix.{agrees_starts, agrees_goes_on, agrees_stops, agrees_short, agrees_ends}
 use Rattle.table_keywords.proofs.Prefix.{decided}
 use Rattle.table_keywords.proofs.reserved_prefix.reserved.Goals as goal

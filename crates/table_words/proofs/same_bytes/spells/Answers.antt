@@ -1,5 +1,4 @@
 use native.Mathlib.Omega.{arith}
-use Prim.Native.Nat.{◌-◌}
 use mathlib.Core.Path.{◌∙◌}
 use Rattle.table_words.proofs.Prefix.{agrees_starts, agrees_goes_on, agrees_stops, agrees_ends}
 use Rattle.table_words.proofs.WordLaws.{whole, other_length}

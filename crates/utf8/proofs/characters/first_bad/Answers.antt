@@ -1,6 +1,6 @@
 use native.Mathlib.Omega.{arith}
 use borrow.Author.Rules.{rules}
-use Prim.Native.Nat.{ℕ, ◌+◌, ◌-◌, ◌<◌}
+use Prim.Native.Nat.{ℕ, ◌+◌, ◌<◌}
 use mathlib.Core.Path.{◌≡◌, refl, sym, ◌∙◌}
 use lib.ListN.{length, get_or}
 use Rattle.definition.specs.Basics.{Bytes}
@@ -32,9 +32,9 @@ pub loop-i-init : goal.loop-i-init
 unfolding first_bad
 loop-i-init c = refl
 
-pub loop-i-preserved-then-text-i-lt128 : goal.loop-i-preserved-then-text-i-lt128
-loop-i-preserved-then-text-i-lt128 c =
-    over _ _ (ascii _ _ c.loop-i-test.true c.if-text-i-lt128.true) c.loop-i.invariant
+pub loop-i-preserved-then-text-i-lt-ASCII_LIMIT : goal.loop-i-preserved-then-text-i-lt-ASCII_LIMIT
+loop-i-preserved-then-text-i-lt-ASCII_LIMIT c =
+    over _ _ (ascii _ _ c.loop-i-test.true c.if-text-i-lt-ASCII_LIMIT.true) c.loop-i.invariant
 
 pub overflow_add-i-in-Char : goal.overflow_add-i-in-Char
 overflow_add-i-in-Char c =
