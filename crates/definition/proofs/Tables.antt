@@ -1,13 +1,14 @@
 -- The tables of the definition, each shown by one computed test: the lowercase ranges are what the source's string spells and
 -- ascend, the kinds are numbered 1 to 173, every kind that a table or a rule names is one of them, and a table is searched to its
 -- longest word. Rests on nothing but the definition.
+use Rattle.std.specs.Prelude.{if◌then◌else◌}
 use Prim.Native.Nat.{ℕ, ◌+◌}
 use Prim.Native.String.{String}
 use mathlib.Core.Path.{◌≡◌, refl}
 use mathlib.Core.Bool.{Bool, true, ◌&&◌, not}
 use mathlib.Core.List.{List, [], ◌∷◌, ◌++◌, map}
 use lib.Dec.{eqb}
-use Rattle.definition.specs.Basics.{Bytes, again, done, loop, mem_cp, if◌then◌else◌}
+use Rattle.definition.specs.Basics.{Bytes, again, done, loop, mem_cp}
 use Rattle.definition.specs.Utf8.{encode, encode_all, sequence_at, sequence}
 use Rattle.definition.specs.Text.{char_has, byte_has, star}
 use Rattle.definition.specs.ClassFile.{ascending}

@@ -1,4 +1,4 @@
--- What the other files share: bytes, a choice by a test, a loop that ends, and characters written as they look.
+-- What the other files share: bytes, a loop that ends, and characters written as they look.
 --
 -- How these files are read:
 --   f : A → B → C          f takes an A and a B and gives a C; `f a b` calls it; `λ x. e` is a function without a name
@@ -6,6 +6,7 @@
 --   abbrev, unfoldable     both begin a definition, and say only when the checker writes it out: always, or where it is asked to
 --   pub                    other files may name it
 --   elim x [ p ↦ e | q ↦ g ]   the arm whose pattern fits x; only that arm is computed
+--   if b then x else y     the library's choice by a test; both arms are computed, so a recursive call stands in an `elim` and not here
 --   let x = e in g         g, in which x stands for e
 --   (a, b, c), A × B × C   a tuple and its type; `.0`, `.1`, `.2` are its parts, and `.line` the part of that name of a struct
 --   a ∷ l, [], l ++ m      a list: its first element and the others, none, two one after the other
@@ -18,12 +19,6 @@ use Prim.Native.String.{String, [] as no_chars, ◌∷◌ as ◌then_chars◌}
 -- a text, a class file, a payload: numbers below 256
 abbrev pub Bytes : Type 0
 Bytes = List ℕ
-
-infix 1 if◌then◌else◌
--- both arms are computed, so a recursive call stands in an `elim` and not here
-abbrev pub if◌then◌else◌ : {X : Type 0} → Bool → X → X → X
-if true then a else b = a
-if false then a else b = b
 
 -- ---- loops: a recursive function of the source is what one call of it does
 

@@ -1,6 +1,6 @@
 -- `blob` and `use_lang`. The contents are the text's own bytes, from byte `from` on: `acc` holds them in chunks.
-use Rattle.std.specs.Prelude.{ℕ, Bool, true, false, ◌||◌, ltb, leb, eqb, length}
-use Rattle.definition.specs.Basics.{Bytes, Turn, again, done, loop, fuel, ch, if◌then◌else◌}
+use Rattle.std.specs.Prelude.{ℕ, Bool, true, false, ◌||◌, ltb, leb, eqb, length, if◌then◌else◌}
+use Rattle.definition.specs.Basics.{Bytes, Turn, again, done, loop, fuel, ch}
 use Rattle.definition.specs.Text.{lexeme, run_end, after}
 use Rattle.definition.specs.Chars.{is_newline_char}
 use Rattle.definition.specs.Tables.{cps}

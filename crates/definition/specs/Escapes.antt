@@ -1,6 +1,6 @@
 -- Characters after a backslash: `unescape` and `string_of_cp`; surrogates.
-use Rattle.std.specs.Prelude.{ℕ, ◌+◌, ◌-◌, ◌*◌, Bool, true, false}
-use Rattle.definition.specs.Basics.{Bytes, ch, between, if◌then◌else◌}
+use Rattle.std.specs.Prelude.{ℕ, ◌+◌, ◌-◌, ◌*◌, Bool, true, false, if◌then◌else◌}
+use Rattle.definition.specs.Basics.{Bytes, ch, between}
 use Rattle.definition.specs.Utf8.{sequence_at, encode}
 use Rattle.definition.specs.Text.{with_char, byte_is, lexeme}
 use Rattle.definition.specs.Numbers.{value_from}

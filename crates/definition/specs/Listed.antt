@@ -1,6 +1,6 @@
 -- A whole text as a list of items: what the tables of cases and the test vectors compute.
-use Rattle.std.specs.Prelude.{ℕ, zero, suc, ◌+◌, ◌*◌, true, false, List, [], ◌∷◌, ◌++◌, eqb, length, take, drop, get_or, replicate}
-use Rattle.definition.specs.Basics.{Bytes, if◌then◌else◌}
+use Rattle.std.specs.Prelude.{ℕ, zero, suc, ◌+◌, ◌*◌, true, false, List, [], ◌∷◌, ◌++◌, eqb, length, take, drop, get_or, replicate, if◌then◌else◌}
+use Rattle.definition.specs.Basics.{Bytes}
 use Rattle.definition.specs.State.{started}
 use Rattle.definition.specs.Item.{record_size}
 use Rattle.definition.specs.Run.{Outcome}

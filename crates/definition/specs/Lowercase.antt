@@ -1,7 +1,7 @@
 -- The built-in lowercase letters: the source's `ll_ranges`, as its text spells it, and its `decode`.
-use Rattle.std.specs.Prelude.{ℕ, ◌+◌, ◌-◌, ◌*◌, Bool, true, false, ◌||◌, List, [], ◌∷◌, ◌++◌, reverse, eqb}
+use Rattle.std.specs.Prelude.{ℕ, ◌+◌, ◌-◌, ◌*◌, Bool, true, false, ◌||◌, List, [], ◌∷◌, ◌++◌, reverse, eqb, if◌then◌else◌}
 use Prim.Native.String.{String}
-use Rattle.definition.specs.Basics.{ch, codes, between, if◌then◌else◌}
+use Rattle.definition.specs.Basics.{ch, codes, between}
 use Rattle.definition.specs.ClassFile.{Range, in_ranges}
 
 -- "Each table is a string of hexadecimal ranges lo-hi separated by commas." Here it stands in pieces, one a line

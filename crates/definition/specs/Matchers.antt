@@ -1,7 +1,7 @@
 -- The matchers, in the source's order: "given a start offset, return the end offset, or -1". Here -1 is `Nothing`.
 -- s is the text, f the class file.
-use Rattle.std.specs.Prelude.{ℕ, ◌+◌, Bool, true, false, not, ◌&&◌, ◌||◌, List, [], ◌∷◌, map, ltb, leb, eqb}
-use Rattle.definition.specs.Basics.{Bytes, Turn, again, done, loop, fuel, ch, codes, mem_cp, between, if◌then◌else◌}
+use Rattle.std.specs.Prelude.{ℕ, ◌+◌, Bool, true, false, not, ◌&&◌, ◌||◌, List, [], ◌∷◌, map, ltb, leb, eqb, if◌then◌else◌}
+use Rattle.definition.specs.Basics.{Bytes, Turn, again, done, loop, fuel, ch, codes, mem_cp, between}
 use Rattle.definition.specs.Utf8.{sequence_at}
 use Rattle.definition.specs.Text.{with_char, char_has, byte_has, byte_is, star}
 use Rattle.definition.specs.Chars.{is_digit, is_hex, is_ident_start, is_constructor_start, is_ident_char, is_newline_char}

@@ -1,6 +1,6 @@
 -- Numbers as texts: `clean_number`, `U.int_of_string` and `show`.
-use Rattle.std.specs.Prelude.{ℕ, suc, ◌+◌, ◌-◌, ◌*◌, ◌/◌, ◌%◌, Bool, true, false, ◌||◌, [], ◌∷◌, ltb, eqb}
-use Rattle.definition.specs.Basics.{Bytes, ch, codes, mem_cp, between, if◌then◌else◌, Turn, again, done, loop}
+use Rattle.std.specs.Prelude.{ℕ, suc, ◌+◌, ◌-◌, ◌*◌, ◌/◌, ◌%◌, Bool, true, false, ◌||◌, [], ◌∷◌, ltb, eqb, if◌then◌else◌}
+use Rattle.definition.specs.Basics.{Bytes, ch, codes, mem_cp, between, Turn, again, done, loop}
 
 -- ---- `clean_number`: "Strip the suffixes and prefixes of numeric literals"
 
@@ -14,7 +14,7 @@ strip_left (b ∷ l) = elim (strips b) [ true ↦ strip_left l | false ↦ b ∷
 
 -- `right`: a byte goes if it is one of these and nothing is left after it
 unfoldable pub strip_if_last : ℕ → Bytes → Bytes
-strip_if_last b [] = if strips b then [] else b ∷ []
+strip_if_last b [] = if strips b then [] else (b ∷ [])
 strip_if_last b (x ∷ l) = b ∷ x ∷ l
 
 unfoldable pub strip_right : Bytes → Bytes

@@ -1,7 +1,7 @@
 -- `run`, the third of document 01's operations: refusals, stops, and both lent buffers after it.
 -- s is the text, name the file's name, f the class file; rs is the records' buffer, ps the payload's.
-use Rattle.std.specs.Prelude.{ℕ, ◌+◌, ◌-◌, ◌*◌, Bool, true, false, List, ◌++◌, ltb, eqb, length, take, drop}
-use Rattle.definition.specs.Basics.{Bytes, Turn, again, done, loop, if◌then◌else◌}
+use Rattle.std.specs.Prelude.{ℕ, ◌+◌, ◌-◌, ◌*◌, Bool, true, false, List, ◌++◌, ltb, eqb, length, take, drop, if◌then◌else◌}
+use Rattle.definition.specs.Basics.{Bytes, Turn, again, done, loop}
 use Rattle.definition.specs.Text.{first_bad}
 use Rattle.definition.specs.ClassFile.{class_check}
 use Rattle.definition.specs.State.{sound}

@@ -1,10 +1,10 @@
 -- `select`: what is chosen at an offset. Its 50 places are the `try_` calls of the source, in their order; what each leads to is its
 -- rule (Rules).
 -- s is the text, f the class file, i an offset.
-use Rattle.std.specs.Prelude.{ℕ, suc, ◌+◌, Bool, true, false, ◌||◌, List, [], ◌∷◌, ltb, leb, eqb}
+use Rattle.std.specs.Prelude.{ℕ, suc, ◌+◌, Bool, true, false, ◌||◌, List, [], ◌∷◌, ltb, leb, eqb, if◌then◌else◌}
 use Prim.Native.Char.{Char}
 use Prim.Native.String.{String}
-use Rattle.definition.specs.Basics.{Bytes, ch, codes, mem_cp, if◌then◌else◌}
+use Rattle.definition.specs.Basics.{Bytes, ch, codes, mem_cp}
 use Rattle.definition.specs.Text.{char_has, star}
 use Rattle.definition.specs.Chars.{ascii_limit, is_digit, is_anywhite, is_op_char, is_symbolchar, is_uoperator}
 use Rattle.definition.specs.Tables.{cps, words_of, early_literals, kw_op_words, op_tokens, mixfix_rules}

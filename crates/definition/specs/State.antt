@@ -1,6 +1,6 @@
 -- The lexing state: what it is after some reading, when a saved one is sound, and `start`.
-use Rattle.std.specs.Prelude.{ℕ, ◌+◌, ◌-◌, Bool, true, false, not, ◌&&◌, List, [], ◌∷◌, ltb, leb, eqb, length, get_or}
-use Rattle.definition.specs.Basics.{Bytes, if◌then◌else◌}
+use Rattle.std.specs.Prelude.{ℕ, ◌+◌, ◌-◌, Bool, true, false, not, ◌&&◌, List, [], ◌∷◌, ltb, leb, eqb, length, get_or, if◌then◌else◌}
+use Rattle.definition.specs.Basics.{Bytes}
 use Rattle.definition.specs.Position.{is_continuation}
 use Rattle.definition.specs.declared.Pos.{Pos}
 use Rattle.definition.specs.declared.State.{State}

@@ -1,8 +1,8 @@
 -- Document 02, K2: "a second run that gives the same items, payloads unchanged", with the positions of an editor: lines from 0, columns in
 -- UTF-16 units. So an item of this run is the first run's, and each of its positions is that of the same place, counted by another weight.
 -- s is the text, name the file's name, f the class file, g the saved state of this run, w the weight; rs and ps are the lent buffers.
-use Rattle.std.specs.Prelude.{ℕ, zero, suc, ◌-◌, Bool, true, false, ◌&&◌, ◌||◌, List, [], ◌∷◌, ◌++◌, ltb, eqb}
-use Rattle.definition.specs.Basics.{Bytes, again, done, loop, fuel, if◌then◌else◌}
+use Rattle.std.specs.Prelude.{ℕ, zero, suc, ◌-◌, Bool, true, false, ◌&&◌, ◌||◌, List, [], ◌∷◌, ◌++◌, ltb, eqb, if◌then◌else◌}
+use Rattle.definition.specs.Basics.{Bytes, again, done, loop, fuel}
 use Rattle.definition.specs.Text.{after}
 use Rattle.definition.specs.Position.{Weight, col_by}
 use Rattle.definition.specs.State.{state_words, sound, start}

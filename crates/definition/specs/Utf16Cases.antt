@@ -1,8 +1,8 @@
 -- The tables of document 02, K2: each text with the positions of its items in the second run, and rows of its saved state, its refusals and
 -- its stops. proofs/Utf16Cases.antt computes that the definition gives them. Texts start at 1:0, with the class file of no ranges.
-use Rattle.std.specs.Prelude.{ℕ, ◌+◌, ◌*◌, true, List, [], ◌∷◌, ◌++◌, map, ltb, length, take, drop, get_or, replicate}
+use Rattle.std.specs.Prelude.{ℕ, ◌+◌, ◌*◌, true, List, [], ◌∷◌, ◌++◌, map, ltb, length, take, drop, get_or, replicate, if◌then◌else◌}
 use Prim.Native.String.{String}
-use Rattle.definition.specs.Basics.{Bytes, if◌then◌else◌}
+use Rattle.definition.specs.Basics.{Bytes}
 use Rattle.definition.specs.Tables.{cps}
 use Rattle.definition.specs.State.{started}
 use Rattle.definition.specs.Item.{record_size}

@@ -1,6 +1,6 @@
 -- UTF-8 by RFC 3629: the bytes of a code point, legal texts, and the legal sequence that stands at an offset.
-use Rattle.std.specs.Prelude.{ℕ, ◌+◌, ◌-◌, ◌*◌, ◌/◌, ◌%◌, ◌≤◌, ◌<◌, ◌≡◌, true, false, List, [], ◌∷◌, ◌++◌, ◌⊎◌, ltb, length, get_or, take}
-use Rattle.definition.specs.Basics.{Bytes, if◌then◌else◌}
+use Rattle.std.specs.Prelude.{ℕ, ◌+◌, ◌-◌, ◌*◌, ◌/◌, ◌%◌, ◌≤◌, ◌<◌, ◌≡◌, true, false, List, [], ◌∷◌, ◌++◌, ◌⊎◌, ltb, length, get_or, take, if◌then◌else◌}
+use Rattle.definition.specs.Basics.{Bytes}
 use Rattle.definition.specs.declared.Sequence.{Sequence}
 use Rattle.definition.specs.declared.Sequence.TheVariants.{Char, Bad, End}
 

@@ -1,6 +1,6 @@
 -- What the functions of escapes ask for, and what a byte after a backslash denotes.
-use Rattle.std.specs.Prelude.{ℕ, ◌+◌, ◌≤◌, ◌<◌, ◌≡◌, true, eqb, length}
-use Rattle.definition.specs.Basics.{Bytes, ch, if◌then◌else◌}
+use Rattle.std.specs.Prelude.{ℕ, ◌+◌, ◌≤◌, ◌<◌, ◌≡◌, true, eqb, length, if◌then◌else◌}
+use Rattle.definition.specs.Basics.{Bytes, ch}
 use Rattle.definition.specs.Escapes.{code_at, hex_value, is_high_half, is_low_half}
 
 -- digits to read from k on: so few that their value is small

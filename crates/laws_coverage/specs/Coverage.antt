@@ -1,7 +1,7 @@
 -- Document 02, K4: "no byte can vanish". What the definition's one reading of a text takes, turn by turn, and that each byte is taken once.
 -- s is the text, name the file's name, f the class file, g the state that the reading begins from.
-use Rattle.std.specs.Prelude.{ℕ, zero, suc, ◌+◌, ◌≤◌, ◌<◌, ◌≡◌, true, false, ◌&&◌, List, [], ◌∷◌, ◌++◌, map, ◌⊎◌, ltb, leb, eqb, length}
-use Rattle.definition.specs.Basics.{Bytes, again, done, if◌then◌else◌}
+use Rattle.std.specs.Prelude.{ℕ, zero, suc, ◌+◌, ◌≤◌, ◌<◌, ◌≡◌, true, false, ◌&&◌, List, [], ◌∷◌, ◌++◌, map, ◌⊎◌, ltb, leb, eqb, length, if◌then◌else◌}
+use Rattle.definition.specs.Basics.{Bytes, again, done}
 use Rattle.definition.specs.Kinds.{kind}
 use Rattle.definition.specs.Select.{select}
 use Rattle.definition.specs.Item.{Step}

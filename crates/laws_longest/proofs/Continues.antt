@@ -1,6 +1,7 @@
 -- Two laws that numbers need. A byte that is one of two letters, tested as the source does, is one of the list that the pattern has.
 -- And where after the lesser of two ends always stands a character of at_least_one class, something that begins with no such character follows
 -- the greatest end alone: a run is so, and what ends with a run. Rests on the shapes.
+use Rattle.std.specs.Prelude.{if◌then◌else◌}
 use Prim.Native.Nat.{ℕ, ◌+◌, ◌<◌}
 use mathlib.Core.Path.{◌≡◌, refl, sym, ap₂, subst, ◌∙◌, fun_ext}
 use mathlib.Core.Bool.{Bool, true, false, not, ◌||◌, false≢true}
@@ -9,7 +10,7 @@ use mathlib.Core.Logic.{◌⊎◌, inl, inr}
 use native.Mathlib.Omega.{arith}
 use lib.Dec.{eqb}
 use borrow.Author.Tests.{eqb-true, eq-eqb, not-true}
-use Rattle.definition.specs.Basics.{Bytes, mem_cp, if◌then◌else◌}
+use Rattle.definition.specs.Basics.{Bytes, mem_cp}
 use Rattle.definition.specs.Text.{byte_has}
 use Rattle.definition.specs.Matchers.{◌then◌, max_list, only}
 use Rattle.definition.specs.Regex.{Re, chr, at_least_one}

@@ -1,5 +1,6 @@
 -- A matcher's answer is right: it is the greatest of the ends that there are, or that there are none. One law for each way of putting
 -- matchers together, over any ends. Rests on the definition of those ways alone.
+use Rattle.std.specs.Prelude.{if◌then◌else◌}
 use Prim.Native.Nat.{ℕ, ◌≤◌, ◌<◌}
 use mathlib.Core.Path.{◌≡◌, refl, subst}
 use mathlib.Core.Bool.{Bool, true, false, ◌&&◌, false≢true}
@@ -7,7 +8,6 @@ use mathlib.Core.Logic.{◌⊎◌, inl, inr}
 use native.Mathlib.Omega.{arith}
 use lib.Dec.{ltb}
 use borrow.Author.Tests.{ltb-true, ltb-false}
-use Rattle.definition.specs.Basics.{if◌then◌else◌}
 use Rattle.definition.specs.Matchers.{◌then◌, later, only}
 use Rattle.definition.specs.declared.Match.{Match}
 use Rattle.definition.specs.declared.Match.TheVariants.{To, Nothing}

@@ -1,13 +1,14 @@
 -- Numbers with a point, with an exponent, and reals: what each matcher finds is the longest end of its pattern. The same of their
 -- shortest parts, which stop after the point or after one digit of the exponent: such a part has one end. Rests on integers and on
 -- the laws of ends that can go on.
+use Rattle.std.specs.Prelude.{if◌then◌else◌}
 use Prim.Native.Nat.{ℕ, ◌+◌}
 use mathlib.Core.Path.{◌≡◌, refl, sym, subst}
 use mathlib.Core.Bool.{Bool, true, false, not, ◌||◌}
 use mathlib.Core.Logic.{◌⊎◌, inl, inr, ⊎_swap}
 use native.Mathlib.Omega.{arith}
 use lib.Dec.{eqb}
-use Rattle.definition.specs.Basics.{Bytes, ch, codes, mem_cp, if◌then◌else◌}
+use Rattle.definition.specs.Basics.{Bytes, ch, codes, mem_cp}
 use Rattle.definition.specs.Text.{byte_has, byte_is, star}
 use Rattle.definition.specs.Chars.{is_digit}
 use Rattle.definition.specs.Matchers.{◌then◌, later, only, match_integer, match_floatp, skip_sign, is_e, match_floate, match_real}

@@ -1,11 +1,11 @@
 -- Matchers put together: what holds of the end that each part finds holds of the end of the whole. Rests on nothing.
+use Rattle.std.specs.Prelude.{if◌then◌else◌}
 use Prim.Native.Nat.{ℕ}
 use mathlib.Core.Path.{◌≡◌, refl, subst}
 use mathlib.Core.Bool.{Bool, true, false}
 use mathlib.Core.List.{List}
 use native.Mathlib.Omega.{arith}
 use lib.Dec.{ltb}
-use Rattle.definition.specs.Basics.{if◌then◌else◌}
 use Rattle.definition.specs.Matchers.{◌then◌, later, max_list, only}
 use Rattle.definition.specs.declared.Match.{Match}
 use Rattle.definition.specs.declared.Match.TheVariants.{To, Nothing}

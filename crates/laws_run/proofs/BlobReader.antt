@@ -1,12 +1,13 @@
 -- Blobs: one walk over a turn of `blob` and one over a turn of `use_lang`, in which the state goes on by a path. From them that their fuel
 -- never runs out, and which form their items have. Rests on paths and forms, and on the ends of matchers and runs (crate `laws_progress`).
+use Rattle.std.specs.Prelude.{if◌then◌else◌}
 use Prim.Native.Nat.{ℕ, ◌+◌, ◌≤◌, ◌<◌}
 use mathlib.Core.Path.{◌≡◌, refl, ◌∙◌}
 use mathlib.Core.List.{[]}
 use native.Mathlib.Omega.{arith}
 use lib.Dec.{ltb}
 use lib.ListN.{length}
-use Rattle.definition.specs.Basics.{Bytes, Turn, loop, fuel, if◌then◌else◌}
+use Rattle.definition.specs.Basics.{Bytes, Turn, loop, fuel}
 use Rattle.definition.specs.Text.{lexeme, run_end, after}
 use Rattle.definition.specs.Chars.{is_newline_char}
 use Rattle.definition.specs.Tables.{cps}

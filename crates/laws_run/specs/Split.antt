@@ -1,6 +1,6 @@
 -- Runs one after another, each with buffers of its own, and the items that a reader finds in the buffers.
-use Rattle.std.specs.Prelude.{ℕ, zero, suc, ◌+◌, List, [], ◌∷◌, ◌++◌, eqb, take, drop, get_or}
-use Rattle.definition.specs.Basics.{Bytes, if◌then◌else◌}
+use Rattle.std.specs.Prelude.{ℕ, zero, suc, ◌+◌, List, [], ◌∷◌, ◌++◌, eqb, take, drop, get_or, if◌then◌else◌}
+use Rattle.definition.specs.Basics.{Bytes}
 use Rattle.definition.specs.Item.{record_size}
 use Rattle.definition.specs.Run.{Outcome, run}
 use Rattle.definition.specs.declared.State.{State}

@@ -1,11 +1,12 @@
 -- By cases on the test or on the match that a definition goes by, keeping what the case says, tests decided by what is known of
 -- their numbers, and what a test that passes says of them. Rests on the tests' own laws, `borrow.Author.Tests`.
+use Rattle.std.specs.Prelude.{if◌then◌else◌}
 use Prim.Native.Nat.{ℕ, ◌≤◌, ◌<◌}
 use mathlib.Core.Path.{◌≡◌, refl, sym, ap, ◌∙◌}
 use mathlib.Core.Bool.{Bool, true, false, not, ◌&&◌, ◌||◌, false≢true}
 use lib.Dec.{ltb, leb, eqb}
 use borrow.Author.Tests.{lt-ltb, le-ltb, le-leb, lt-leb, eq-eqb, ne_eqb, ltb-true, ltb-false, leb-true, leb-false, eqb-true, eqb-false}
-use Rattle.definition.specs.Basics.{between, if◌then◌else◌}
+use Rattle.definition.specs.Basics.{between}
 use Rattle.definition.specs.declared.Match.{Match}
 use Rattle.definition.specs.declared.Match.TheVariants.{To, Nothing}
 

@@ -1,7 +1,7 @@
 -- Document 01, "The listing program": "A line is T or C, kind name or `-`, words 2 to 5, 8, 9, 7; last END and the count, or REFUSED and the
 -- number." The words of a line are separated by single blanks, and a line feed ends it.
-use Rattle.std.specs.Prelude.{ℕ, zero, suc, List, [], ◌∷◌, ◌++◌, map, eqb, get_or, take, drop}
-use Rattle.definition.specs.Basics.{Bytes, ch, if◌then◌else◌}
+use Rattle.std.specs.Prelude.{ℕ, zero, suc, List, [], ◌∷◌, ◌++◌, map, eqb, get_or, take, drop, if◌then◌else◌}
+use Rattle.definition.specs.Basics.{Bytes, ch}
 use Rattle.definition.specs.Kinds.{kind_names}
 use Rattle.definition.specs.Tables.{cps}
 use Rattle.definition.specs.Numbers.{show}

@@ -1,4 +1,5 @@
 -- Escapes and names in backticks, by what stands at the offset. Rests on the laws of one character and of the loop of names in backticks.
+use Rattle.std.specs.Prelude.{if◌then◌else◌}
 use Prim.Native.Nat.{ℕ, ◌+◌, ◌≤◌, ◌<◌}
 use mathlib.Core.Path.{◌≡◌, refl, sym, ap, subst, ◌∙◌}
 use mathlib.Core.Bool.{Bool, true, false, not, ◌&&◌}
@@ -7,7 +8,7 @@ use native.Mathlib.Omega.{arith}
 use lib.Dec.{ltb, eqb}
 use lib.ListN.{length, get_or}
 use borrow.Author.Tests.{lt-ltb, eq-eqb, ne_eqb, eqb-true}
-use Rattle.definition.specs.Basics.{Bytes, Turn, again, done, ch, codes, mem_cp, if◌then◌else◌}
+use Rattle.definition.specs.Basics.{Bytes, Turn, again, done, ch, codes, mem_cp}
 use Rattle.definition.specs.Utf8.{sequence_at}
 use Rattle.definition.specs.Text.{with_char, byte, byte_has, byte_is}
 use Rattle.definition.specs.Chars.{is_hex, is_newline_char}

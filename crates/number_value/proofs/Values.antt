@@ -1,5 +1,6 @@
 -- The value of a text of digits against 255: a value never falls as digits are added, so one that is above 255 stays above. Rests on
 -- nothing but the definition.
+use Rattle.std.specs.Prelude.{if◌then◌else◌}
 use Prim.Native.Nat.{ℕ, ◌+◌, ◌-◌, ◌*◌, ◌≤◌, ◌<◌}
 use mathlib.Core.Path.{◌≡◌, refl, sym, ap, ◌∙◌}
 use mathlib.Core.Bool.{Bool, true, false, ◌||◌}
@@ -13,7 +14,7 @@ use lib.Dec.{ltb, eqb}
 use lib.ListN.{length, get_or, drop, drop_of_length-le}
 use lib.Seq.{drop-cons}
 use borrow.Author.Tests.{lt-ltb, le-ltb, lt-leb, eq-eqb, ne_eqb}
-use Rattle.definition.specs.Basics.{Bytes, ch, between, if◌then◌else◌}
+use Rattle.definition.specs.Basics.{Bytes, ch, between}
 use Rattle.definition.specs.Numbers.{digit_value, value_from, base_of, after_zero, int_of_string}
 use Rattle.lemmas.proofs.Cases.{by_order}
 use Rattle.number_value.specs.NumeralContracts.{Base}

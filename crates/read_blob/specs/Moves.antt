@@ -1,6 +1,6 @@
 -- What stands at an offset of a blob, in the definition's order.
-use Rattle.std.specs.Prelude.{ℕ, Bool, true, false, ltb, leb, length}
-use Rattle.definition.specs.Basics.{Bytes, if◌then◌else◌}
+use Rattle.std.specs.Prelude.{ℕ, Bool, true, false, ltb, leb, length, if◌then◌else◌}
+use Rattle.definition.specs.Basics.{Bytes}
 use Rattle.definition.specs.Chars.{is_newline_char}
 use Rattle.definition.specs.Tables.{cps}
 use Rattle.definition.specs.Matchers.{match_lit, match_newline}

@@ -1,6 +1,6 @@
 -- The refusals that ask for the text's bytes, as the definition's `refusal` ends.
-use Rattle.std.specs.Prelude.{ℕ, true, false, ltb, length}
-use Rattle.definition.specs.Basics.{Bytes, if◌then◌else◌}
+use Rattle.std.specs.Prelude.{ℕ, true, false, ltb, length, if◌then◌else◌}
+use Rattle.definition.specs.Basics.{Bytes}
 use Rattle.definition.specs.Text.{first_bad}
 use Rattle.definition.specs.State.{sound}
 use Rattle.definition.specs.declared.State.{State}

@@ -1,6 +1,6 @@
 -- The two bytes that early literals begin with.
-use Rattle.std.specs.Prelude.{ℕ, Bool, eqb}
-use Rattle.definition.specs.Basics.{ch, between, if◌then◌else◌}
+use Rattle.std.specs.Prelude.{ℕ, Bool, eqb, if◌then◌else◌}
+use Rattle.definition.specs.Basics.{ch, between}
 
 -- the two bytes that an early literal may begin with
 abbrev pub early_pair : ℕ → ℕ → Bool

@@ -1,9 +1,10 @@
 -- What is computed over the definition's table: which bytes operator tokens begin with.
+use Rattle.std.specs.Prelude.{if◌then◌else◌}
 use Prim.Native.Nat.{ℕ, ◌<◌}
 use mathlib.Core.Path.{◌≡◌, refl}
 use mathlib.Core.Bool.{false}
 use mathlib.Core.List.{List, [], ◌∷◌, map}
-use Rattle.definition.specs.Basics.{codes, mem_cp, if◌then◌else◌}
+use Rattle.definition.specs.Basics.{codes, mem_cp}
 use Rattle.definition.specs.Utf8.{encode, encode_all}
 use Rattle.definition.specs.Chars.{count_up}
 use Rattle.definition.specs.Tables.{cps, op_tokens, words_of}

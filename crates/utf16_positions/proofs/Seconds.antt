@@ -1,12 +1,13 @@
 -- The positions of this crate are the definition's: those of a step from the second run's state g, whose item is given at a, and after
 -- which the state is n. Rests on nothing but the two definitions.
+use Rattle.std.specs.Prelude.{if◌then◌else◌}
 use Prim.Native.Nat.{ℕ, ◌-◌}
 use mathlib.Core.Path.{◌≡◌, refl, ap₂, fun_ext, ◌∙◌}
 use mathlib.Core.Bool.{Bool, true, false}
 use mathlib.Core.List.{List}
 use lib.Dec.{eqb}
 use borrow.Author.Tests.{eq-eqb, ne_eqb}
-use Rattle.definition.specs.Basics.{Bytes, if◌then◌else◌}
+use Rattle.definition.specs.Basics.{Bytes}
 use Rattle.definition.specs.Position.{col_by}
 use Rattle.definition.specs.Item.{words}
 use Rattle.definition.specs.Utf16.{utf16, second_pos, column_in, second, second_start, second_item}

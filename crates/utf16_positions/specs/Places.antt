@@ -1,6 +1,6 @@
 -- Places of a line with both their columns, and the positions of a record counted again. s is the text.
-use Rattle.std.specs.Prelude.{ℕ, ◌+◌, ◌-◌, ◌≤◌, ◌<◌, ◌≡◌, List, eqb, length, get_or}
-use Rattle.definition.specs.Basics.{Bytes, if◌then◌else◌}
+use Rattle.std.specs.Prelude.{ℕ, ◌+◌, ◌-◌, ◌≤◌, ◌<◌, ◌≡◌, List, eqb, length, get_or, if◌then◌else◌}
+use Rattle.definition.specs.Basics.{Bytes}
 use Rattle.definition.specs.Position.{Weight, count_chars}
 use Rattle.definition.specs.Item.{record_size, words}
 use Rattle.definition.specs.Utf16.{utf16, skip_chars, column_in, second_item}

@@ -1,9 +1,9 @@
 -- The second columns of lines and of comments, and where an item begins, as the code tells them. Rests on nothing but the definition.
+use Rattle.std.specs.Prelude.{if◌then◌else◌}
 use Prim.Native.Nat.{ℕ}
 use mathlib.Core.Path.{◌≡◌}
 use borrow.Author.Tests.{eq-eqb, ne_eqb}
 use lib.Dec.{eqb}
-use Rattle.definition.specs.Basics.{if◌then◌else◌}
 use Rattle.definition.specs.declared.State.{State}
 use Rattle.definition.specs.declared.Utf16State.{Utf16State}
 use Rattle.utf16_positions.specs.Places.{line_of, line_in}

@@ -1,6 +1,7 @@
 -- A turn of the second run, from what the first run's turn did and from what was counted of the record that it wrote. Rests on the laws of
 -- the second run's steps (crate `laws_utf16`), of positions counted again (crate `utf16_positions`), and on that a turn looks at its records
 -- only for their length.
+use Rattle.std.specs.Prelude.{if◌then◌else◌}
 use Prim.Native.Nat.{ℕ, ◌+◌, ◌-◌, ◌*◌, ◌≤◌}
 use mathlib.Core.Path.{◌≡◌, refl, sym, ap, ap₂, subst, ◌∙◌}
 use mathlib.Core.List.{List}
@@ -8,7 +9,7 @@ use native.Mathlib.Omega.{arith}
 use lib.Dec.{eqb}
 use lib.ListN.{length, get_or}
 use borrow.Rule.Slice.PartMut.{mid_of, put_mid}
-use Rattle.definition.specs.Basics.{Bytes, again, if◌then◌else◌}
+use Rattle.definition.specs.Basics.{Bytes, again}
 use Rattle.definition.specs.Item.{Step, record_size, words}
 use Rattle.definition.specs.Token.{step}
 use Rattle.definition.specs.Run.{put, Writing, run_turn}

@@ -1,7 +1,7 @@
 -- Where the second run stands between two items, and what one turn of it does to the buffers. s is the text, name the file's name, f the
 -- class file; rs and ps are the buffers as they are then.
-use Rattle.std.specs.Prelude.{ℕ, ◌+◌, ◌*◌, ◌≤◌, ◌≡◌, true, false, List, eqb, length, get_or}
-use Rattle.definition.specs.Basics.{Bytes, if◌then◌else◌, again, done}
+use Rattle.std.specs.Prelude.{ℕ, ◌+◌, ◌*◌, ◌≤◌, ◌≡◌, true, false, List, eqb, length, get_or, if◌then◌else◌}
+use Rattle.definition.specs.Basics.{Bytes, again, done}
 use Rattle.definition.specs.Item.{record_size, words}
 use Rattle.definition.specs.Token.{step}
 use Rattle.definition.specs.Run.{put, run_turn}

@@ -6,8 +6,7 @@
 // stands between two items, and the tables of operator and of symbol characters are lent.
 #![tactic(auto)]
 
-ghost use Rattle.std.specs.Prelude.{[], ◌≡◌, eqb};
-ghost use Rattle.definition.specs.Basics.{if◌then◌else◌};
+ghost use Rattle.std.specs.Prelude.{[], ◌≡◌, eqb, if◌then◌else◌};
 ghost use Rattle.run_turn.specs.Running.{Between};
 ghost use Rattle.select.specs.Standing.{Lent};
 ghost use Rattle.utf16_positions.specs.Places.{line_in};
