@@ -5,12 +5,16 @@
 // it only checks the text's UTF-8 so many times, and writes how many of its first bytes are legal: bench/measure sets that time
 // beside the lexer's. The classes are those of the file classes.bin in the working directory; a missing one counts as empty.
 // Proved: it ends and breaks nothing, and what it runs is `lexer::run` or `lexer::utf16::run` (crate `either_run`).
-// Assumed: what `libc` and `os` declare of reading and writing.
+// Assumed: nothing. What the system gives to read, and takes of what is written, no contract says; a read or a write that fails
+// ends the program with its error.
 #![tactic(auto)]
 
 use either_run::Saved;
-use inputs::{class_buffer, least, payload_buffer, read_classes, record_buffer, text_buffer};
-use libc::{STDIN_FILENO, STDOUT_FILENO};
+use inputs::{
+    class_buffer, least, payload_buffer, read_classes, read_full, record_buffer, text_buffer,
+};
+use std::env::{Env, FillError};
+use std::io;
 
 // The second argument: the UTF-8 check, or the second run.
 const CHECK: usize = 8;
@@ -99,14 +103,14 @@ fn number(word: &[u8]) -> usize {
     n
 }
 
-// The number that the argument k says, or `without` where there is none.
-fn argument(k: usize, without: usize) -> usize {
+// The number that the argument k says, or `without` where there is none. One that is longer than any number asked for counts as 0.
+fn argument(rt: &impl Env, k: usize, without: usize) -> usize {
     let mut word = [0u8; 20];
-    if os::arg_count() <= k {
-        return without;
+    match rt.arg(k, &mut word) {
+        Ok(length) => number(&word[..length]),
+        Err(FillError::NotPresent) => without,
+        Err(FillError::TooLong) => 0,
     }
-    let length = os::arg(k, &mut word);
-    number(&word[..length])
 }
 
 // The start of the run that the second argument asks for.
@@ -131,23 +135,22 @@ fn wide_byte(b: u8) -> u64 {
 }
 
 // Writes a number and a line end.
-fn say(n: u64) {
-    io::print_decimal(STDOUT_FILENO, n);
-    io::write_all(STDOUT_FILENO, b"\n");
+fn say(rt: &impl Print, n: u64) -> io::Result<()> {
+    println!(rt; "{n}")
 }
 
-fn main() {
+fn main(rt: HostRuntime) -> io::Result<()> {
     let mut text = text_buffer();
     let mut records = record_buffer();
     let mut payload = payload_buffer();
     let mut classes = class_buffer();
-    let length = io::read_full(STDIN_FILENO, &mut text);
-    let size = read_classes(&mut classes);
-    let rounds = argument(1, 1);
-    let mode = argument(2, 0);
+    let mut input = rt.reader();
+    let length = read_full(&mut input, &mut text)?;
+    let size = read_classes(&rt, &mut classes)?;
+    let rounds = argument(&rt, 1, 1);
+    let mode = argument(&rt, 2, 0);
     if mode == CHECK {
-        say(checks(rounds, &text[..length]) as u64);
-        return;
+        return say(&rt, checks(rounds, &text[..length]) as u64);
     }
     let last = runs(
         rounds,
@@ -159,13 +162,12 @@ fn main() {
     );
     if last.refusal != 0 {
         // How long this message is decides where the code stands: docs/PERFORMANCE.md, "Where the code stands".
-        io::write_all(STDOUT_FILENO, b"REFUSED with number ");
-        say(last.refusal as u64);
-        return;
+        print!(rt; "REFUSED with number ")?;
+        return say(&rt, last.refusal as u64);
     }
-    say(last.items);
+    say(&rt, last.items)?;
     // Both buffers have more than 1,048,576.
     let k = (last.items % 1048576) as usize;
-    say(wide_number(records[k]));
-    say(wide_byte(payload[k]));
+    say(&rt, wide_number(records[k]))?;
+    say(&rt, wide_byte(payload[k]))
 }

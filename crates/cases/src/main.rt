@@ -25,19 +25,21 @@
 // that is cut short or too large, or asks for none of the calls, gets a line that says so and is the last.
 //
 // Proved: it ends and breaks nothing; what the calls answer is the definition's (crate `lexer`). What it
-// prints for the stored frames is compared with the file stdout. Assumed: what `libc` declares of reading and writing; a read that
-// fails counts as the end.
+// prints for the stored frames is compared with the file stdout. Assumed: nothing. What the system gives to read, and takes of what is
+// written, no contract says; a read or a write that fails ends the program with its error.
 #![tactic(auto)]
 
 mod print; // print.rt: the lines
 
-ghost use Rattle.std.specs.Prelude.{◌≡◌, ◌≤◌};
+ghost use Rattle.std.specs.Prelude.{◌≡◌, ◌≤◌, IfOk};
 ghost use Rattle.cases.specs.Parts.{NoParts, Within};
 
 use definition::{Pos, State, Utf16State};
 use either_run::Saved;
-use libc::STDIN_FILENO;
+use inputs::read_full;
 use print::{print_numbers, print_payload, print_records, say};
+use std::io;
+use std::io::{BufWriter, Read, Write};
 
 const START: u32 = 1;
 
@@ -75,16 +77,16 @@ fn fill_payload(payload: &mut [u8]) {
 }
 
 // Prints the last line, which says why there is no other.
-fn last(line: &[u8]) -> Parts
-    ensures { NoParts result }
+fn last<W: Write>(out: &mut W, line: &[u8]) -> io::Result<Parts>
+    ensures { IfOk result NoParts }
 {
-    say(line);
-    Parts {
+    say(out, line)?;
+    Ok(Parts {
         name: 0,
         text: 0,
         classes: 0,
         more: false,
-    }
+    })
 }
 
 // A number as a count: in a function of its own the cast of what an index reads asks for no proof.
@@ -129,80 +131,88 @@ fn state_of(n: [u32; 18]) -> Saved {
 }
 
 // Document 01's nine numbers of a state.
-fn print_first(s: State) {
+fn print_first<W: Write>(out: &mut W, s: State) -> io::Result<()> {
     let p = s.comment;
-    print_numbers(&[s.offset, s.line, s.bol, s.column]);
-    print_numbers(&[s.comments, s.mode, s.depth, p.line, p.col]);
+    print_numbers(out, &[s.offset, s.line, s.bol, s.column])?;
+    print_numbers(out, &[s.comments, s.mode, s.depth, p.line, p.col])
 }
 
 // A state's numbers, with which a line ends.
-fn print_state(state: Saved) {
+fn print_state<W: Write>(out: &mut W, state: Saved) -> io::Result<()> {
     match state {
-        Saved::Characters(first) => print_first(first),
+        Saved::Characters(first) => print_first(out, first)?,
         Saved::Utf16(both) => {
-            print_first(both.first);
-            print_numbers(&[both.column, both.comment]);
+            print_first(out, both.first)?;
+            print_numbers(out, &[both.column, both.comment])?;
         }
     }
-    say(b"\n");
+    say(out, b"\n")
 }
 
 // Start takes the line and the line-start column of the state.
-fn answer_start(n: [u32; 18]) {
+fn answer_start<W: Write>(out: &mut W, n: [u32; 18]) -> io::Result<()> {
     let answer = lexer::start(n[3], n[5]);
     let state = answer.state;
-    say(b"start");
-    print_numbers(&[n[1], answer.refusal]);
-    print_state(Saved::Characters(state));
+    say(out, b"start")?;
+    print_numbers(out, &[n[1], answer.refusal])?;
+    print_state(out, Saved::Characters(state))
 }
 
-fn answer_utf16_start(n: [u32; 18]) {
+fn answer_utf16_start<W: Write>(out: &mut W, n: [u32; 18]) -> io::Result<()> {
     let answer = lexer::utf16::start(n[3], n[5]);
     let state = answer.state;
-    say(b"utf16-start");
-    print_numbers(&[n[1], answer.refusal]);
-    print_state(Saved::Utf16(state));
+    say(out, b"utf16-start")?;
+    print_numbers(out, &[n[1], answer.refusal])?;
+    print_state(out, Saved::Utf16(state))
 }
 
-fn answer_class_check(case: u32, classes: &[u8]) {
-    say(b"classes");
-    print_numbers(&[case, lexer::class_check(classes)]);
-    say(b"\n");
+fn answer_class_check<W: Write>(out: &mut W, case: u32, classes: &[u8]) -> io::Result<()> {
+    say(out, b"classes")?;
+    print_numbers(out, &[case, lexer::class_check(classes)])?;
+    say(out, b"\n")
 }
 
 // The word of a run's line.
-fn say_run(state: Saved) {
+fn say_run<W: Write>(out: &mut W, state: Saved) -> io::Result<()> {
     match state {
-        Saved::Characters(_) => say(b"run"),
-        Saved::Utf16(_) => say(b"utf16-run"),
+        Saved::Characters(_) => say(out, b"run"),
+        Saved::Utf16(_) => say(out, b"utf16-run"),
     }
 }
 
 // A run of either kind that is lent these buffers.
-fn answer_run(
+fn answer_run<W: Write>(
+    out: &mut W,
     n: [u32; 18],
     name: &[u8],
     text: &[u8],
     classes: &[u8],
     records: &mut [u32],
     payload: &mut [u8],
-) {
+) -> io::Result<()> {
     fill_records(records);
     fill_payload(payload);
     let answer = either_run::run(text, name, classes, state_of(n), records, payload);
     let state = answer.state;
-    say_run(state);
-    print_numbers(&[n[1], answer.refusal, answer.offset]);
-    print_numbers(&[answer.stop, answer.count]);
-    print_state(state);
-    print_records(records);
-    print_payload(payload);
+    say_run(out, state)?;
+    print_numbers(out, &[n[1], answer.refusal, answer.offset])?;
+    print_numbers(out, &[answer.stop, answer.count])?;
+    print_state(out, state)?;
+    print_records(out, records)?;
+    print_payload(out, payload)
 }
 
-// Makes the call that a frame with these numbers and parts asks for.
-fn call(n: [u32; 18], parts: Parts, bytes: &[u8], records: &mut [u32], payload: &mut [u8]) -> Parts
+// Makes the call that a frame with these numbers and parts asks for. The only error is the writer's own.
+fn call<W: Write>(
+    out: &mut W,
+    n: [u32; 18],
+    parts: Parts,
+    bytes: &[u8],
+    records: &mut [u32],
+    payload: &mut [u8],
+) -> io::Result<Parts>
     requires { Within parts bytes.now }
-    ensures { Within result bytes.now }
+    ensures { IfOk result (λ after. Within after bytes.now) }
 {
     let name = parts.name;
     let text = parts.text;
@@ -210,51 +220,59 @@ fn call(n: [u32; 18], parts: Parts, bytes: &[u8], records: &mut [u32], payload: 
     let numbers = wide(n[13]);
     let room = wide(n[14]);
     if records.len() < numbers || payload.len() < room {
-        return last(b"a frame is too large\n");
+        return last(out, b"a frame is too large\n");
     }
     let asked = n[0];
     match asked {
-        START => answer_start(n),
-        UTF16_START => answer_utf16_start(n),
-        CLASS_CHECK => answer_class_check(n[1], &bytes[text..end]),
+        START => answer_start(out, n)?,
+        UTF16_START => answer_utf16_start(out, n)?,
+        CLASS_CHECK => answer_class_check(out, n[1], &bytes[text..end])?,
         RUN | UTF16_RUN => answer_run(
+            out,
             n,
             &bytes[..name],
             &bytes[name..text],
             &bytes[text..end],
             &mut records[..numbers],
             &mut payload[..room],
-        ),
-        _ => return last(b"a frame asks for none of the calls\n"),
+        )?,
+        _ => return last(out, b"a frame asks for none of the calls\n"),
     }
-    parts
+    Ok(parts)
 }
 
-// Reads a frame and makes its call.
-fn answer_next(before: Parts, bytes: &mut [u8], records: &mut [u32], payload: &mut [u8]) -> Parts
+// Reads a frame and makes its call. The only errors are those of reading and of writing.
+fn answer_next<R: Read, W: Write>(
+    input: &mut R,
+    out: &mut W,
+    before: Parts,
+    bytes: &mut [u8],
+    records: &mut [u32],
+    payload: &mut [u8],
+) -> io::Result<Parts>
     requires { Within before bytes.old }
-    ensures { Within result bytes.new }
+    ensures { IfOk result (λ after. Within after bytes.new) }
 {
     let mut head = [0u8; 72];
-    let got = io::read_full(STDIN_FILENO, &mut head);
+    let got = read_full(input, &mut head)?;
     if got == 0 {
-        return last(b"");
+        return last(out, b"");
     }
     if got < 72 {
-        return last(b"a frame is cut short\n");
+        return last(out, b"a frame is cut short\n");
     }
     let n = numbers_of(&head);
     if n[15] == KEPT {
-        return call(n, before, bytes, records, payload);
+        return call(out, n, before, bytes, records, payload);
     }
     let name = wide(n[15]);
     let text = name + wide(n[16]);
     let classes = text + wide(n[17]);
     if bytes.len() < classes {
-        return last(b"a frame is too large\n");
+        return last(out, b"a frame is too large\n");
     }
-    if io::read_full(STDIN_FILENO, &mut bytes[..classes]) < classes {
-        return last(b"a frame is cut short\n");
+    if read_full(input, &mut bytes[..classes])? < classes {
+        return last(out, b"a frame is cut short\n");
     }
     let parts = Parts {
         name: name,
@@ -262,12 +280,18 @@ fn answer_next(before: Parts, bytes: &mut [u8], records: &mut [u32], payload: &m
         classes: classes,
         more: true,
     };
-    call(n, parts, bytes, records, payload)
+    call(out, n, parts, bytes, records, payload)
 }
 
 // All frames, one after another. A loop has to end, and nothing says that standard input does: it counts its turns down from a
 // number that no input uses up.
-fn answer_all(bytes: &mut [u8], records: &mut [u32], payload: &mut [u8]) {
+fn answer_all<R: Read, W: Write>(
+    input: &mut R,
+    out: &mut W,
+    bytes: &mut [u8],
+    records: &mut [u32],
+    payload: &mut [u8],
+) -> io::Result<()> {
     let mut parts = Parts {
         name: 0,
         text: 0,
@@ -276,14 +300,18 @@ fn answer_all(bytes: &mut [u8], records: &mut [u32], payload: &mut [u8]) {
     };
     let mut turns = u64::MAX;
     while 0 < turns && parts.more {
-        parts = answer_next(parts, bytes, records, payload);
+        parts = answer_next(input, out, parts, bytes, records, payload)?;
         turns -= 1;
     }
+    Ok(())
 }
 
-fn main() {
+fn main(rt: HostRuntime) -> io::Result<()> {
     let mut bytes = inputs::parts_buffer();
     let mut records = inputs::record_buffer();
     let mut payload = inputs::payload_buffer();
-    answer_all(&mut bytes, &mut records, &mut payload);
+    let mut input = rt.reader();
+    let mut out = BufWriter::new(rt.alloc(), io::writer(&rt))?;
+    answer_all(&mut input, &mut out, &mut bytes, &mut records, &mut payload)?;
+    out.flush()
 }

@@ -4,75 +4,80 @@
 // number: 6 for a text above 60,000 bytes, then what the class check answers, then 8 for ill-formed UTF-8.
 // Proved: it ends and breaks nothing, and the choice is the definition's (crate `select`). What it writes for the stored
 // text, which reaches each of the 50 places and none, is compared with the file stdout.
-// Assumed: what `libc` and `os` declare of reading and writing.
+// Assumed: nothing. What the system gives to read, and takes of what is written, no contract says; a read or a write that fails
+// ends the program with its error.
 #![tactic(auto)]
 
 ghost use Rattle.select.specs.Standing.{Lent};
 
 use definition::{Choice, Sequence};
-use inputs::{class_buffer, read_classes};
-use libc::{STDIN_FILENO, STDOUT_FILENO};
+use inputs::{class_buffer, read_classes, read_full, short_text_buffer};
+use std::io;
+use std::io::{BufWriter, Write};
 
 const TEXT_LIMIT: usize = 60000;
 
 // A line for a refusal.
-fn refuse(number: u32) {
-    io::write_all(STDOUT_FILENO, b"REFUSED ");
-    io::print_decimal(STDOUT_FILENO, number as u64);
-    io::write_all(STDOUT_FILENO, b"\n");
+fn refuse<W: Write>(out: &mut W, number: u32) -> io::Result<()> {
+    writeln!(out, "REFUSED {number}")
 }
 
 // The line of one choice.
-fn show(i: usize, choice: Choice) {
-    io::print_decimal(STDOUT_FILENO, i as u64);
-    io::write_all(STDOUT_FILENO, b" ");
-    io::print_decimal(STDOUT_FILENO, choice.place as u64);
-    io::write_all(STDOUT_FILENO, b" ");
-    io::print_decimal(STDOUT_FILENO, choice.end as u64);
-    io::write_all(STDOUT_FILENO, b"\n");
+fn show<W: Write>(out: &mut W, i: usize, choice: Choice) -> io::Result<()> {
+    let place = choice.place;
+    let end = choice.end;
+    writeln!(out, "{i} {place} {end}")
 }
 
 // The lines of a legal text.
-fn list(text: &[u8], file: &[u8], ops: &[bool; 128], symbols: &[bool; 128])
+fn list<W: Write>(
+    out: &mut W,
+    text: &[u8],
+    file: &[u8],
+    ops: &[bool; 128],
+    symbols: &[bool; 128],
+) -> io::Result<()>
     requires { Lent file.now ops.now symbols.now }
 {
     let mut i = 0;
     while i < text.len() {
         let Sequence::Char(_, width) = utf8::sequence_at(text, i) else {
-            return;
+            return Ok(());
         };
-        show(i, select::select(text, file, ops, symbols, i));
+        show(out, i, select::select(text, file, ops, symbols, i))?;
         i += width;
     }
+    Ok(())
 }
 
 // The lines of a text under a class file, or what refuses them.
-fn choices(text: &[u8], file: &[u8]) {
+fn choices<W: Write>(out: &mut W, text: &[u8], file: &[u8]) -> io::Result<()> {
     if TEXT_LIMIT < text.len() {
-        refuse(6);
-        return;
+        return refuse(out, 6);
     }
     let refusal = class_file::check::class_check(file);
     if refusal != 0 {
-        refuse(refusal);
-        return;
+        return refuse(out, refusal);
     }
     if utf8::characters::first_bad(text) != text.len() {
-        refuse(8);
-        return;
+        return refuse(out, 8);
     }
     list(
+        out,
         text,
         file,
         &chars::ascii::op_char_table(),
         &chars::ascii::symbolchar_table(),
-    );
+    )
 }
 
-fn main() {
-    let mut text = io::large_buffer();
+fn main(rt: HostRuntime) -> io::Result<()> {
+    let mut text = short_text_buffer();
     let mut file = class_buffer();
-    let length = io::read_full(STDIN_FILENO, &mut text);
-    let size = read_classes(&mut file);
-    choices(&text[..length], &file[..size]);
+    let mut input = rt.reader();
+    let length = read_full(&mut input, &mut text)?;
+    let size = read_classes(&rt, &mut file)?;
+    let mut out = BufWriter::new(rt.alloc(), io::writer(&rt))?;
+    choices(&mut out, &text[..length], &file[..size])?;
+    out.flush()
 }

@@ -1,20 +1,32 @@
 // What the programs read, what they read it into, and what they lend to a run: files, and buffers, those for a text, a name or a
 // class file with one byte more than these may have, so that a longer one is refused and not cut.
 // Proved: each function is safe and ends; the buffers are as long as they are said to be; no more bytes are counted
-// as read than a buffer has. Assumed: what `libc` and `os` declare of reading; a read that fails counts as the end.
+// as read than a buffer has, and of a reader whose bytes are known they are its first, up to the buffer's length or the input's end.
+// Assumed: nothing. What the system gives to read no contract says; a read that fails is an error, and never the end.
 #![tactic(auto)]
 
-ghost use Rattle.std.specs.Prelude.{◌≡◌, min, ◌*◌, length};
+ghost use Rattle.std.specs.Prelude.{◌≡◌, ℕ, min, ◌*◌, ◌<◌, List, length, take, Option, Ok, IfOk, OnErr};
+ghost use Rattle.std.specs.Io.{ReadsAtMost};
+ghost use Rattle.std.specs.Io.KnownBytes.{Consumes, IsAtEnd};
 ghost use Rattle.definition.specs.Item.{record_size};
-ghost use Rattle.io.specs.Counts.{IsPrefixLen};
 
 use definition::RECORD;
+use std::fs::Files;
+use std::io::Read;
+use std::{fs, io};
 
 // For a text.
 pub fn text_buffer() -> [u8; 1048577]
     ensures { 1048577 ≡ length result }
 {
     [0; 1048577]
+}
+
+// For a text of which no more than 60,000 bytes are taken.
+pub fn short_text_buffer() -> [u8; 65536]
+    ensures { 65536 ≡ length result }
+{
+    [0; 65536]
 }
 
 // For a class file.
@@ -45,23 +57,46 @@ pub fn payload_buffer() -> [u8; 1052672]
     [0; 1052672]
 }
 
-// Reads a file that was opened, closes it, and answers how many bytes came; none where it couldn't be opened.
-pub fn read_opened(fd: i32, bytes: &mut [u8]) -> usize
-    ensures { IsPrefixLen result bytes.new }
+// Reads until the buffer is full or the input ends, and answers how many bytes came. The only error is the reader's own; the
+// buffer then keeps its length.
+pub fn read_full<R: Read>(reader: &mut R, bytes: &mut [u8]) -> io::Result<usize>
+    ensures bound { ReadsAtMost result bytes.new }
+    ensures bytes { IfOk result (λ n. Consumes (R.remaining reader.old) (R.remaining reader.new) (take n bytes.new)) }
+    ensures end { IfOk result (λ n. n < length bytes.new → IsAtEnd (R.remaining reader.new)) }
+    ensures err { OnErr result (length bytes.new ≡ length bytes.old) }
 {
-    if fd < 0 {
-        return 0;
+    let mut done = 0;
+    while done < bytes.len() {
+        let n = reader.read(&mut bytes[done..])?;
+        if n == 0 {
+            break;
+        }
+        done += n;
     }
-    let n = io::read_full(fd, bytes);
-    libc::close(fd);
-    n
+    Ok(done)
 }
 
-// Reads the class file of the working directory; a missing one counts as a file of no bytes.
-pub fn read_classes(file: &mut [u8]) -> usize
-    ensures { IsPrefixLen result file.new }
+// Reads a file that was opened, closes it, and answers how many bytes came; none where it couldn't be opened. The only error
+// is that of a read; the buffer then keeps its length.
+pub fn read_opened<F: Read + Drop>(opened: io::Result<F>, bytes: &mut [u8]) -> io::Result<usize>
+    ensures bound { ReadsAtMost result bytes.new }
+    ensures missing { OnErr opened (result ≡ Ok 0) }
+    ensures bytes { IfOk opened (λ file. IfOk result (λ n. (left : Option (List ℕ)) × Consumes (F.remaining file) left (take n bytes.new) × (n < length bytes.new → IsAtEnd left))) }
+    ensures err { OnErr result (length bytes.new ≡ length bytes.old) }
 {
-    read_opened(os::open_read(b"classes.bin"), file)
+    match opened {
+        Ok(mut file) => read_full(&mut file, bytes),
+        Err(_) => Ok(0),
+    }
+}
+
+// Reads the class file of the working directory; a missing one counts as a file of no bytes. The only error is that of a read;
+// the buffer then keeps its length.
+pub fn read_classes<R: Files>(rt: &R, file: &mut [u8]) -> io::Result<usize>
+    ensures bound { ReadsAtMost result file.new }
+    ensures err { OnErr result (length file.new ≡ length file.old) }
+{
+    read_opened(fs::open(rt, "classes.bin"), file)
 }
 
 // The lesser of two numbers.

@@ -5,9 +5,10 @@
 #![tactic(auto)]
 
 use either_run::Saved;
+use std::io;
 
-fn main() {
+fn main(rt: HostRuntime) -> io::Result<()> {
     let begun = lexer::start(1, 0);
     let state = begun.state;
-    listing_rounds::list_input(Saved::Characters(state));
+    listing_rounds::list_input(&rt, Saved::Characters(state))
 }

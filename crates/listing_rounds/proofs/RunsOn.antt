@@ -17,7 +17,7 @@ use Rattle.listing_rounds.specs.declared.rounds.Ending.TheVariants.{Refusal, All
 use Rattle.listing_rounds.proofs.EitherRuns.{Roomy, Did, either_did, refusal_is}
 
 -- an answer without a refusal
-run_taken : (s name f : Bytes) (from : Saved) (rs : List ℕ) (ps : Bytes) → (either_run s name f from rs ps).0.refusal ≡ 0 → either_refusal s name f from ≡ 0
+pub run_taken : (s name f : Bytes) (from : Saved) (rs : List ℕ) (ps : Bytes) → (either_run s name f from rs ps).0.refusal ≡ 0 → either_refusal s name f from ≡ 0
 run_taken s name f from rs ps z = sym (refusal_is s name f rs ps from) ∙ z
 
 -- what a run did that answers so

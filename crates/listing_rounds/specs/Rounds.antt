@@ -1,5 +1,5 @@
 -- What a listing's runs are lent, where they begin, and what a round of the listing, one run, promises.
-use Rattle.std.specs.Prelude.{ℕ, ◌*◌, ◌≤◌, ◌≡◌, List, [], ◌∷◌, ◌++◌, length}
+use Rattle.std.specs.Prelude.{ℕ, ◌*◌, ◌≤◌, ◌≡◌, List, [], ◌∷◌, ◌++◌, length, codes, decimal}
 use Rattle.definition.specs.Basics.{Bytes}
 use Rattle.definition.specs.State.{started}
 use Rattle.definition.specs.Item.{Step, record_size, words}
@@ -64,3 +64,17 @@ listing s name f from = lines_of (either_items s name f from)
 abbrev pub Ends : Bytes → Bytes → Bytes → Saved → Ending → Type 0
 Ends s name f from (Refusal number) = (number ≡ either_refusal s name f from) × (number ≡ 0 → ⊥)
 Ends s name f from (All count) = (either_refusal s name f from ≡ 0) × (count ≡ length (either_items s name f from))
+
+-- a line of a word and a number
+abbrev pub told : Bytes → ℕ → Bytes
+told word number = word ++ (codes " " ++ (decimal number ++ codes "\n"))
+
+-- what a listing that ends so writes before its last line: nothing where it is refused
+abbrev pub before_last : Bytes → Bytes → Bytes → Saved → Ending → Bytes
+before_last s name f from (Refusal number) = []
+before_last s name f from (All count) = listing s name f from
+
+-- its last line
+abbrev pub last_line : Ending → Bytes
+last_line (Refusal number) = told (codes "REFUSED") number
+last_line (All count) = told (codes "END") count

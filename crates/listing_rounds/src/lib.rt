@@ -4,26 +4,32 @@
 //
 // Proved: it ends; each run is the definition's (crate `either_run`), and what it leaves in the buffer to be written are the definition's lines
 // of its records, so that in all it is a line for each item (proofs/Whole.antt); the number after END is the count of all items, and
-// REFUSED comes only where the first run is refused. Assumed: what `libc` and `os` declare of reading and writing; a read that fails counts
-// as the end of what is read. No contract says what is handed over to be written.
+// REFUSED comes only where the first run is refused; a writer whose bytes are known takes just the lines of all items and the last line
+// (`list`). Assumed: nothing. What the system gives to read, and takes of what is written, no contract says; a read or a write that
+// fails ends the listing with its error.
 #![tactic(auto)]
 
 pub mod rounds; // rounds.rt: what a listing is lent, what one of its runs gives, and how it all ends
 
+ghost use Rattle.std.specs.Prelude.{◌++◌, ◌<◌, ◌≤◌, length, codes, IfOk, OnOk};
+ghost use Rattle.std.specs.Io.KnownBytes.{Appends};
 ghost use Rattle.definition.specs.Tables.{cps};
 ghost use Rattle.either_run.specs.Either.{either_run};
-ghost use Rattle.listing_rounds.specs.Rounds.{AtFirst, Lent, Begun, Rounded, Ends};
+ghost use Rattle.listing_rounds.specs.Rounds.{AtFirst, Lent, Begun, Rounded, Ends, told, before_last, last_line};
+ghost use Rattle.listing_rounds.specs.declared.rounds.Ending.{Ending};
 
 use either_run::{Saved, run};
-use inputs::{class_buffer, read_classes};
-use libc::{STDIN_FILENO, STDOUT_FILENO};
+use inputs::{class_buffer, read_classes, read_full, short_text_buffer};
 use rounds::{Ending, Round, line_buffer, payload_buffer, record_buffer, round_of, too_long};
+use std::fs::Files;
+use std::io;
+use std::io::Write;
 
 // A line of a word and a number.
-fn say(word: &[u8], number: u64) {
-    io::write_all(STDOUT_FILENO, word);
-    io::print_decimal(STDOUT_FILENO, number);
-    io::write_all(STDOUT_FILENO, b"\n");
+fn say<W: Write>(to: &mut W, word: &str, number: u64) -> io::Result<()>
+    ensures { OnOk result (Appends (W.contents to.old) (W.contents to.new) (told word.now number)) }
+{
+    writeln!(to, "{word} {number}")
 }
 
 // Runs once, and makes lines of the items.
@@ -42,35 +48,40 @@ fn run_once(
     round_of(answer, records, out)
 }
 
+// Why a run stopped: it came to the end.
+const AT_END: u32 = 0;
+
 // Runs on from a state until the end, and writes the lines of each run at once. Only the first run can be refused, since the
 // state that a run hands back is taken again. Each run but the last writes an item, since both buffers are free again and have
-// room for any one item: so what is left to read falls with each run.
-fn list_from(
+// room for any one item: so what is left to read falls with each run. The only error is the writer's own.
+fn list_from<W: Write>(
+    to: &mut W,
     text: &[u8],
     classes: &[u8],
     begun: Saved,
     records: &mut [u32],
     payload: &mut [u8],
     out: &mut [u8],
-) -> Ending
+) -> io::Result<Ending>
     requires { Begun text.now begun × Lent records.old payload.old out.old }
-    ensures { Ends text.now (cps "stdin") classes.now begun result }
+    ensures ends { IfOk result (Ends text.now (cps "stdin") classes.now begun) }
+    ensures lines { IfOk result (λ ending. Appends (W.contents to.old) (W.contents to.new) (before_last text.now (cps "stdin") classes.now begun ending)) }
 {
     let mut from = begun;
     let mut listed: u64 = 0;
     loop {
         match run_once(text, classes, from, records, payload, out) {
-            Round::Refused(number) => return Ending::Refusal(number),
+            Round::Refused(number) => return Ok(Ending::Refusal(number)),
             Round::Lines {
                 bytes,
                 items,
                 stop,
                 next,
             } => {
-                io::write_all(STDOUT_FILENO, &out[..bytes]);
+                to.write_all(&out[..bytes])?;
                 listed += items as u64;
-                if stop == 0 {
-                    return Ending::All(listed);
+                if stop == AT_END {
+                    return Ok(Ending::All(listed));
                 }
                 from = next;
             }
@@ -79,34 +90,48 @@ fn list_from(
 }
 
 // The last line.
-fn say_ending(ending: Ending) {
+fn say_ending<W: Write>(to: &mut W, ending: Ending) -> io::Result<()>
+    ensures { OnOk result (Appends (W.contents to.old) (W.contents to.new) (last_line ending)) }
+{
     match ending {
-        Ending::Refusal(number) => say(b"REFUSED ", number as u64),
-        Ending::All(items) => say(b"END ", items),
+        Ending::Refusal(number) => say(to, "REFUSED", number as u64),
+        Ending::All(items) => say(to, "END", items),
     }
 }
 
-// The lines of a text under a class file.
-fn list(text: &[u8], classes: &[u8], begun: Saved)
+// The lines of a text under a class file, and the last line. The only error is the writer's own.
+pub fn list<W: Write>(to: &mut W, text: &[u8], classes: &[u8], begun: Saved) -> io::Result<()>
     requires { AtFirst begun }
+    ensures long { 60000 < length text.now → OnOk result (Appends (W.contents to.old) (W.contents to.new) (told (codes "REFUSED") 6)) }
+    ensures listed { length text.now ≤ 60000 → OnOk result ((ending : Ending) × Ends text.now (cps "stdin") classes.now begun ending
+        × Appends (W.contents to.old) (W.contents to.new) (before_last text.now (cps "stdin") classes.now begun ending ++ last_line ending)) }
 {
     if too_long(text.len()) {
-        say(b"REFUSED ", 6);
-        return;
+        return say(to, "REFUSED", 6);
     }
     let mut records = record_buffer();
     let mut payload = payload_buffer();
     let mut out = line_buffer();
-    say_ending(list_from(text, classes, begun, &mut records, &mut payload, &mut out));
+    let ending = list_from(
+        to,
+        text,
+        classes,
+        begun,
+        &mut records,
+        &mut payload,
+        &mut out,
+    )?;
+    say_ending(to, ending)
 }
 
-// The lines of standard input, by the run of which the state is.
-pub fn list_input(begun: Saved)
+// The lines of standard input, by the run of which the state is. The only errors are those of reading and of writing.
+pub fn list_input<R: Files + Input + Print>(rt: &R, begun: Saved) -> io::Result<()>
     requires { AtFirst begun }
 {
-    let mut text = io::large_buffer();
+    let mut text = short_text_buffer();
     let mut file = class_buffer();
-    let length = io::read_full(STDIN_FILENO, &mut text);
-    let size = read_classes(&mut file);
-    list(&text[..length], &file[..size], begun);
+    let mut input = rt.reader();
+    let length = read_full(&mut input, &mut text)?;
+    let size = read_classes(rt, &mut file)?;
+    list(&mut io::writer(rt), &text[..length], &file[..size], begun)
 }

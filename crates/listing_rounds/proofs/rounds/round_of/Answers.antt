@@ -1,0 +1,12 @@
+-- A refusal is told; where there is none, there is room for the lines.
+use Rattle.std.proofs.Common.{rules}
+use Rattle.listing_rounds.specs.Rounds.{Told}
+use Rattle.listing_rounds.proofs.rounds.round_of.Goals as goal
+
+pub returns-then-answer-ne0 : goal.returns-then-answer-ne0
+unfolding Told
+returns-then-answer-ne0 c = search rules
+
+pub returns : goal.returns
+unfolding Told
+returns c = search rules
