@@ -161,7 +161,7 @@ fn main(rt: HostRuntime) -> io::Result<()> {
         &mut payload,
     );
     if last.refusal != 0 {
-        // How long this message is decides where the code stands: docs/PERFORMANCE.md, "Where the code stands".
+        // How long this message is decided where the code stood when it was measured: docs/PERFORMANCE.md, "Where the code stands".
         print!(rt; "REFUSED with number ")?;
         return say(&rt, last.refusal as u64);
     }

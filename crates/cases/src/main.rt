@@ -39,7 +39,7 @@ use either_run::Saved;
 use inputs::read_full;
 use print::{print_numbers, print_payload, print_records, say};
 use std::io;
-use std::io::{BufWriter, Read, Write};
+use std::io::{Read, Write};
 
 const START: u32 = 1;
 
@@ -311,7 +311,11 @@ fn main(rt: HostRuntime) -> io::Result<()> {
     let mut records = inputs::record_buffer();
     let mut payload = inputs::payload_buffer();
     let mut input = rt.reader();
-    let mut out = BufWriter::new(rt.alloc(), io::writer(&rt))?;
-    answer_all(&mut input, &mut out, &mut bytes, &mut records, &mut payload)?;
-    out.flush()
+    answer_all(
+        &mut input,
+        &mut io::writer(&rt),
+        &mut bytes,
+        &mut records,
+        &mut payload,
+    )
 }

@@ -13,7 +13,7 @@ ghost use Rattle.select.specs.Standing.{Lent};
 use definition::{Choice, Sequence};
 use inputs::{class_buffer, read_classes, read_full, short_text_buffer};
 use std::io;
-use std::io::{BufWriter, Write};
+use std::io::Write;
 
 const TEXT_LIMIT: usize = 60000;
 
@@ -77,7 +77,5 @@ fn main(rt: HostRuntime) -> io::Result<()> {
     let mut input = rt.reader();
     let length = read_full(&mut input, &mut text)?;
     let size = read_classes(&rt, &mut file)?;
-    let mut out = BufWriter::new(rt.alloc(), io::writer(&rt))?;
-    choices(&mut out, &text[..length], &file[..size])?;
-    out.flush()
+    choices(&mut io::writer(&rt), &text[..length], &file[..size])
 }

@@ -1,7 +1,8 @@
 -- What the rounds of a listing have written so far. Rests on what one round lists (RunsOn) and on what all of them list (Whole).
-use Rattle.std.proofs.Common.{ℕ, ◌≡◌, List, [], ◌++◌, Option, None, Some, refl, sym, ap, subst, ◌∙◌, length, take, drop, append_assoc}
+use Rattle.std.proofs.Common.{ℕ, ◌≡◌, List, [], ◌++◌, Option, refl, sym, ap, subst, ◌∙◌, length, take, drop, append_assoc}
 use Rattle.std.proofs.lemmas.List.{append-nil}
 use Rattle.std.proofs.Math.Seq.{take-append_seam}
+use Rattle.std.proofs.KnownBytes.{Appends-nil, Appends-trans}
 use Rattle.std.specs.Io.KnownBytes.{Appends}
 use Rattle.definition.specs.Basics.{Bytes}
 use Rattle.lemmas.specs.Over.{Wrote, over}
@@ -11,18 +12,6 @@ use Rattle.listing_rounds.specs.Rounds.{Lists, Ends, listing}
 use Rattle.listing_rounds.specs.declared.rounds.Ending.TheVariants.{Refusal}
 use Rattle.listing_rounds.proofs.Whole.{round_lines, no_lines}
 use Rattle.listing_rounds.proofs.RunsOn.{run_taken}
-
--- a writer that took nothing
-appends_nothing : (a : Option (List ℕ)) → Appends a a []
-appends_nothing None = tt
-appends_nothing (Some xs) = sym (append-nil xs)
-
--- a writer that took xs, and then ys
-appends_more : (a b c : Option (List ℕ)) (xs ys : List ℕ) → Appends a b xs → Appends b c ys → Appends a c (xs ++ ys)
-appends_more None b c xs ys p q = tt
-appends_more (Some x) None c xs ys p q = absurd p
-appends_more (Some x) (Some y) None xs ys p q = absurd q
-appends_more (Some x) (Some y) (Some z) xs ys p q = q ∙ ap (λ l. l ++ ys) p ∙ append_assoc x xs ys
 
 -- what was written to the front of a buffer
 front_is : {vs before after : List ℕ} {count : ℕ} → Wrote vs before after count → take count after ≡ vs
@@ -39,7 +28,7 @@ pub record Written (s name f : Bytes) (from₀ from : Saved) (a b : Option (List
   pub silent : (either_refusal s name f from₀ ≡ 0 → ⊥) → bytes ≡ []
 
 pub written_none : (s name f : Bytes) (from : Saved) (a : Option (List ℕ)) → Written s name f from from a a
-written_none s name f from a = record { bytes = []; taken = appends_nothing a; rest = refl; silent = λ n. refl }
+written_none s name f from a = record { bytes = []; taken = Appends-nil a; rest = refl; silent = λ n. refl }
 
 module _ {s name f : Bytes} {from₀ from : Saved} {a b : Option (List ℕ)} (w : Written s name f from₀ from a b) where
   -- a listing that ends with a refusal has written nothing
@@ -61,7 +50,7 @@ module _ {s name f : Bytes} {from₀ from : Saved} {a b : Option (List ℕ)} (w 
         ∙ ap (λ (y : Saved). part ++ listing s name f y) (sym l.state) in
         record {
           bytes = w.bytes ++ part;
-          taken = appends_more a b c w.bytes part w.taken p;
+          taken = Appends-trans a b c w.bytes part w.taken p;
           rest = w.rest ∙ ap (λ (x : Bytes). w.bytes ++ x) here ∙ sym (append_assoc w.bytes part (listing s name f next));
           silent = λ n. absurd (n (sym same ∙ taken));
         }
