@@ -1,17 +1,17 @@
--- No fuel of the definition ever runs out. `loop` stands in eleven definitions; for each, `..-enough` says that more fuel and
--- another `out` change nothing, and `..-unroll` that it is what its first turn says, with itself for a further call. Where a
--- definition only begins a loop, the loop has a name, `..-from` or `show_onto`, and `..-is` says what the definition is by it. (Those of
+-- No fuel of the definition ever runs out. `loop` stands in eleven definitions; for each, `.._enough` says that more fuel and
+-- another `out` change nothing, and `.._unroll` that it is what its first turn says, with itself for a further call. Where a
+-- definition only begins a loop, the loop has a name, `.._from` or `show_onto`, and `.._is` says what the definition is by it. (Those of
 -- readers and runs stand in specs/Going.antt.)
 --   star          for any text and offset
 --   backtick      `match_backtick_ident`: for any text and offset
---   no-comment    where the end that it is given is the text's; every choice of `select` has such an end
+--   no_comment    where the end that it is given is the text's; every choice of `select` has such an end
 --   show          for any number
 --   comment       in a comment, from an offset on from which the text has whole characters only (`InComment`)
 --   string        `string_lit`: for any text and state
 --   blob          from an offset on from which the text has whole characters only (`Clean`)
 --   lang          `use_lang`: for any text and state
 --   token         `next_token`: for any text and state
---   chosen        `Chosen-at`: for any text and state
+--   chosen        `chosen_at`: for any text and state
 --   run           `run_items`: from a state that has a level open if it is in a comment (`Opened`)
 -- What `comment`, `blob` and `run_items` ask holds at the start of every run that isn't refused (`run_stands`, and a sound state has it:
 -- `stands_clean`), at every state that it comes to (`reached_stands`), and after every choice at such a state (`choice_clean`). Rests on

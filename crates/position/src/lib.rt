@@ -112,8 +112,7 @@ fn column_from(text: &[u8], st: State, known: Cache, i: u32) -> Cache
     }
 }
 
-// The source's `col_of`: it answers the column, and changes the cache in place. The counting is in `column_from`, since a
-// function over a struct that is lent is proved by a walk of its code by hand.
+// The source's `col_of`: it answers the column, and changes the cache in place. The counting is in `column_from`, by value.
 fn col_of(text: &[u8], st: State, cache: &mut Cache, i: u32) -> u32
     requires { Asked one_each text.now st cache.old i }
     ensures { (result ≡ (column_at one_each text.now st i).col) × (cache.new ≡ column_at one_each text.now st i) }
@@ -125,7 +124,7 @@ fn col_of(text: &[u8], st: State, cache: &mut Cache, i: u32) -> u32
 }
 
 // What is known once the column of i was asked for, from what was known. The one function that lends a cache: its
-// parameters are plain, so that whoever calls it needs no walk.
+// parameters are plain.
 pub fn known_after(text: &[u8], st: State, known: Cache, i: u32) -> Cache
     requires { Asked one_each text.now st known i }
     ensures { result ≡ column_at one_each text.now st i }
