@@ -9,10 +9,9 @@
 // ends the program with its error.
 #![tactic(auto)]
 
+use definition::answers::{RunRefusal, Stop};
 use either_run::Saved;
-use inputs::{
-    class_buffer, least, payload_buffer, read_classes, read_full, record_buffer, text_buffer,
-};
+use inputs::{CLASSES, PAYLOAD, RECORDS, TEXT, buffer, least, read_classes, read_full};
 use std::env::{Env, FillError};
 use std::io;
 
@@ -21,39 +20,26 @@ const CHECK: usize = 8;
 
 const UTF16: usize = 16;
 
-// What a whole run gave: the items, or the refusal's number.
-#[derive(Drop)]
-struct Whole {
-    refusal: u32,
-    items: u64,
-}
-
-// A run over the whole text. It runs on after a full buffer. Each run writes an item at least, since every payload fits
-// into an empty buffer, and there are no more items than bytes and the end.
+// How many items a run over the whole text gives, or what refuses it. It runs on after a full buffer. Each run writes an item at
+// least, since every payload fits into an empty buffer, and there are no more items than bytes and the end.
 fn whole_run(
     text: &[u8],
     classes: &[u8],
     start: Saved,
     records: &mut [u32],
     payload: &mut [u8],
-) -> Whole {
+) -> Result<u64, RunRefusal> {
     let mut state = start;
     let mut items: u64 = 0;
     for _ in 0..1048577usize {
-        let answer = either_run::run(text, b"stdin", classes, state, records, payload);
-        items = std::num::wrapping_add_u64(items, answer.count as u64);
-        if answer.stop == 0 {
-            return Whole {
-                refusal: answer.refusal,
-                items: items,
-            };
+        let ran = either_run::run(text, b"stdin", classes, state, records, payload)?;
+        items = std::num::wrapping_add_u64(items, ran.count as u64);
+        if ran.stop == Stop::End {
+            return Ok(items);
         }
-        state = answer.state;
+        state = ran.state;
     }
-    Whole {
-        refusal: 0,
-        items: items,
-    }
+    Ok(items)
 }
 
 // As many whole runs as asked for; what the last one gave.
@@ -64,11 +50,8 @@ fn runs(
     start: Saved,
     records: &mut [u32],
     payload: &mut [u8],
-) -> Whole {
-    let mut last = Whole {
-        refusal: 0,
-        items: 0,
-    };
+) -> Result<u64, RunRefusal> {
+    let mut last = Ok(0);
     for _ in 0..rounds {
         last = whole_run(text, classes, start, records, payload);
     }
@@ -88,17 +71,14 @@ fn checks(rounds: usize, text: &[u8]) -> usize {
 // The number that a word's first digits say; a million for one far above it.
 fn number(word: &[u8]) -> usize {
     let mut n: usize = 0;
-    for i in 0..word.len() {
-        if word[i] < b'0' {
-            return n;
-        }
-        if b'9' < word[i] {
+    for &b in word {
+        if !b.is_ascii_digit() {
             return n;
         }
         if 100000 < n {
             return 1000000;
         }
-        n = n * 10 + (word[i] - b'0') as usize;
+        n = n * 10 + usize::from(b - b'0');
     }
     n
 }
@@ -116,22 +96,9 @@ fn argument(rt: &impl Env, k: usize, without: usize) -> usize {
 // The start of the run that the second argument asks for.
 fn start(mode: usize) -> Saved {
     if mode == UTF16 {
-        let begun = lexer::utf16::start(1, 0);
-        let state = begun.state;
-        return Saved::Utf16(state);
+        return Saved::Utf16(lexer::utf16::start(1, 0).unwrap());
     }
-    let begun = lexer::start(1, 0);
-    let state = begun.state;
-    Saved::Characters(state)
-}
-
-// A number, and a byte, as one of 64 bits: in a function of their own casts of what an index reads ask for no proof.
-fn wide_number(n: u32) -> u64 {
-    n as u64
-}
-
-fn wide_byte(b: u8) -> u64 {
-    b as u64
+    Saved::Characters(lexer::start(1, 0).unwrap())
 }
 
 // Writes a number and a line end.
@@ -140,10 +107,10 @@ fn say(rt: &impl Print, n: u64) -> io::Result<()> {
 }
 
 fn main(rt: HostRuntime) -> io::Result<()> {
-    let mut text = text_buffer();
-    let mut records = record_buffer();
-    let mut payload = payload_buffer();
-    let mut classes = class_buffer();
+    let mut text: [u8; TEXT] = buffer(0);
+    let mut records: [u32; RECORDS] = buffer(0);
+    let mut payload: [u8; PAYLOAD] = buffer(0);
+    let mut classes: [u8; CLASSES] = buffer(0);
     let mut input = rt.reader();
     let length = read_full(&mut input, &mut text)?;
     let size = read_classes(&rt, &mut classes)?;
@@ -160,14 +127,17 @@ fn main(rt: HostRuntime) -> io::Result<()> {
         &mut records,
         &mut payload,
     );
-    if last.refusal != 0 {
-        // How long this message is decided where the code stood when it was measured: docs/PERFORMANCE.md, "Where the code stands".
-        print!(rt; "REFUSED with number ")?;
-        return say(&rt, last.refusal as u64);
-    }
-    say(&rt, last.items)?;
+    let items = match last {
+        Ok(items) => items,
+        Err(refusal) => {
+            // How long this message is decided where the code stood when it was measured: docs/PERFORMANCE.md, "Where the code stands".
+            print!(rt; "REFUSED with number ")?;
+            return say(&rt, refusal.number() as u64);
+        }
+    };
+    say(&rt, items)?;
     // Both buffers have more than 1,048,576.
-    let k = (last.items % 1048576) as usize;
-    say(&rt, wide_number(records[k]))?;
-    say(&rt, wide_byte(payload[k]))
+    let k = (items % 1048576) as usize;
+    say(&rt, u64::from(records[k]))?;
+    say(&rt, u64::from(payload[k]))
 }

@@ -31,12 +31,13 @@
 
 mod print; // print.rt: the lines
 
-ghost use Rattle.std.specs.Prelude.{◌≡◌, ◌≤◌, IfOk};
-ghost use Rattle.cases.specs.Parts.{NoParts, Within};
+ghost use Rattle.std.specs.Prelude.{◌≡◌, None, IfOk, IfSome};
+ghost use Rattle.cases.specs.Parts.{Within};
 
+use definition::answers::StartRefusal;
 use definition::{Pos, State, Utf16State};
 use either_run::Saved;
-use inputs::read_full;
+use inputs::{PARTS, PAYLOAD, RECORDS, buffer, read_full};
 use print::{print_numbers, print_payload, print_records, say};
 use std::io;
 use std::io::{Read, Write};
@@ -54,46 +55,20 @@ const UTF16_RUN: u32 = 5;
 // The length that says that name, text and class file are those of the frame before.
 const KEPT: u32 = 4294967295;
 
-// Where the name, the text after it and the class file after that end in the buffer that they are read into, and whether a frame
-// may follow.
+// Where the name, the text after it and the class file after that end in the buffer that they are read into.
 #[derive(Drop)]
 pub struct Parts {
     pub name: usize,
     pub text: usize,
     pub classes: usize,
-    pub more: bool,
-}
-
-fn fill_records(records: &mut [u32]) {
-    for i in 0..records.len() {
-        records[i] = print::FILL_NUMBER;
-    }
-}
-
-fn fill_payload(payload: &mut [u8]) {
-    for i in 0..payload.len() {
-        payload[i] = print::FILL_BYTE;
-    }
 }
 
 // Prints the last line, which says why there is no other.
-fn last<W: Write>(out: &mut W, line: &[u8]) -> io::Result<Parts>
-    ensures { IfOk result NoParts }
+fn last<W: Write>(out: &mut W, line: &[u8]) -> io::Result<Option<Parts>>
+    ensures { IfOk result (λ after. after ≡ None) }
 {
     say(out, line)?;
-    Ok(Parts {
-        name: 0,
-        text: 0,
-        classes: 0,
-        more: false,
-    })
-}
-
-// A number as a count: in a function of its own the cast of what an index reads asks for no proof.
-fn wide(n: u32) -> usize
-    ensures { (result ≡ n) × (result ≤ 4294967295) }
-{
-    n as usize
+    Ok(None)
 }
 
 // The numbers of a frame.
@@ -124,7 +99,7 @@ fn state_of(n: [u32; 18]) -> Saved {
         return Saved::Characters(first);
     }
     Saved::Utf16(Utf16State {
-        first: first,
+        first,
         column: n[11],
         comment: n[12],
     })
@@ -149,26 +124,45 @@ fn print_state<W: Write>(out: &mut W, state: Saved) -> io::Result<()> {
     say(out, b"\n")
 }
 
+// The case and the number of a start's answer, and its state, which is zeros where the start is refused.
+fn print_start<W: Write>(
+    out: &mut W,
+    case: u32,
+    begun: Result<Saved, StartRefusal>,
+    zeros: Saved,
+) -> io::Result<()> {
+    match begun {
+        Ok(state) => {
+            print_numbers(out, &[case, 0])?;
+            print_state(out, state)
+        }
+        Err(refusal) => {
+            print_numbers(out, &[case, refusal.number()])?;
+            print_state(out, zeros)
+        }
+    }
+}
+
 // Start takes the line and the line-start column of the state.
 fn answer_start<W: Write>(out: &mut W, n: [u32; 18]) -> io::Result<()> {
-    let answer = lexer::start(n[3], n[5]);
-    let state = answer.state;
+    let begun = lexer::start(n[3], n[5]).map(Saved::Characters);
     say(out, b"start")?;
-    print_numbers(out, &[n[1], answer.refusal])?;
-    print_state(out, Saved::Characters(state))
+    print_start(out, n[1], begun, Saved::Characters(State::default()))
 }
 
 fn answer_utf16_start<W: Write>(out: &mut W, n: [u32; 18]) -> io::Result<()> {
-    let answer = lexer::utf16::start(n[3], n[5]);
-    let state = answer.state;
+    let begun = lexer::utf16::start(n[3], n[5]).map(Saved::Utf16);
     say(out, b"utf16-start")?;
-    print_numbers(out, &[n[1], answer.refusal])?;
-    print_state(out, Saved::Utf16(state))
+    print_start(out, n[1], begun, Saved::Utf16(Utf16State::default()))
 }
 
 fn answer_class_check<W: Write>(out: &mut W, case: u32, classes: &[u8]) -> io::Result<()> {
+    let number = match lexer::class_check(classes) {
+        Ok(()) => 0,
+        Err(refusal) => refusal.number(),
+    };
     say(out, b"classes")?;
-    print_numbers(out, &[case, lexer::class_check(classes)])?;
+    print_numbers(out, &[case, number])?;
     say(out, b"\n")
 }
 
@@ -190,19 +184,27 @@ fn answer_run<W: Write>(
     records: &mut [u32],
     payload: &mut [u8],
 ) -> io::Result<()> {
-    fill_records(records);
-    fill_payload(payload);
-    let answer = either_run::run(text, name, classes, state_of(n), records, payload);
-    let state = answer.state;
-    say_run(out, state)?;
-    print_numbers(out, &[n[1], answer.refusal, answer.offset])?;
-    print_numbers(out, &[answer.stop, answer.count])?;
-    print_state(out, state)?;
+    records.fill(print::FILL_NUMBER);
+    payload.fill(print::FILL_BYTE);
+    let given = state_of(n);
+    let answer = either_run::run(text, name, classes, given, records, payload);
+    say_run(out, given)?;
+    match answer {
+        Ok(ran) => {
+            print_numbers(out, &[n[1], 0, 0, ran.stop.number(), ran.count])?;
+            print_state(out, ran.state)?;
+        }
+        Err(refusal) => {
+            print_numbers(out, &[n[1], refusal.number(), refusal.offset(), 0, 0])?;
+            print_state(out, given)?;
+        }
+    }
     print_records(out, records)?;
     print_payload(out, payload)
 }
 
-// Makes the call that a frame with these numbers and parts asks for. The only error is the writer's own.
+// Makes the call that a frame with these numbers and parts asks for, and answers the parts; none after a line that is the last. The
+// only error is the writer's own.
 fn call<W: Write>(
     out: &mut W,
     n: [u32; 18],
@@ -210,15 +212,15 @@ fn call<W: Write>(
     bytes: &[u8],
     records: &mut [u32],
     payload: &mut [u8],
-) -> io::Result<Parts>
+) -> io::Result<Option<Parts>>
     requires { Within parts bytes.now }
-    ensures { IfOk result (λ after. Within after bytes.now) }
+    ensures { IfOk result (λ after. IfSome after (λ parts. Within parts bytes.now)) }
 {
     let name = parts.name;
     let text = parts.text;
     let end = parts.classes;
-    let numbers = wide(n[13]);
-    let room = wide(n[14]);
+    let numbers = n[13] as usize;
+    let room = n[14] as usize;
     if records.len() < numbers || payload.len() < room {
         return last(out, b"a frame is too large\n");
     }
@@ -238,10 +240,10 @@ fn call<W: Write>(
         )?,
         _ => return last(out, b"a frame asks for none of the calls\n"),
     }
-    Ok(parts)
+    Ok(Some(parts))
 }
 
-// Reads a frame and makes its call. The only errors are those of reading and of writing.
+// Reads a frame and makes its call, and answers its parts; none where no frame may follow. The only errors are those of reading and of writing.
 fn answer_next<R: Read, W: Write>(
     input: &mut R,
     out: &mut W,
@@ -249,9 +251,9 @@ fn answer_next<R: Read, W: Write>(
     bytes: &mut [u8],
     records: &mut [u32],
     payload: &mut [u8],
-) -> io::Result<Parts>
+) -> io::Result<Option<Parts>>
     requires { Within before bytes.old }
-    ensures { IfOk result (λ after. Within after bytes.new) }
+    ensures { IfOk result (λ after. IfSome after (λ parts. Within parts bytes.new)) }
 {
     let mut head = [0u8; 72];
     let got = read_full(input, &mut head)?;
@@ -265,9 +267,9 @@ fn answer_next<R: Read, W: Write>(
     if n[15] == KEPT {
         return call(out, n, before, bytes, records, payload);
     }
-    let name = wide(n[15]);
-    let text = name + wide(n[16]);
-    let classes = text + wide(n[17]);
+    let name = n[15] as usize;
+    let text = name + n[16] as usize;
+    let classes = text + n[17] as usize;
     if bytes.len() < classes {
         return last(out, b"a frame is too large\n");
     }
@@ -275,16 +277,15 @@ fn answer_next<R: Read, W: Write>(
         return last(out, b"a frame is cut short\n");
     }
     let parts = Parts {
-        name: name,
-        text: text,
-        classes: classes,
-        more: true,
+        name,
+        text,
+        classes,
     };
     call(out, n, parts, bytes, records, payload)
 }
 
-// All frames, one after another. A loop has to end, and nothing says that standard input does: it counts its turns down from a
-// number that no input uses up.
+// All frames, one after another. A loop has to end, and nothing says that standard input does: it takes as many turns as no input uses
+// up.
 fn answer_all<R: Read, W: Write>(
     input: &mut R,
     out: &mut W,
@@ -296,20 +297,20 @@ fn answer_all<R: Read, W: Write>(
         name: 0,
         text: 0,
         classes: 0,
-        more: true,
     };
-    let mut turns = u64::MAX;
-    while 0 < turns && parts.more {
-        parts = answer_next(input, out, parts, bytes, records, payload)?;
-        turns -= 1;
+    for _ in 0..u64::MAX {
+        let Some(after) = answer_next(input, out, parts, bytes, records, payload)? else {
+            break;
+        };
+        parts = after;
     }
     Ok(())
 }
 
 fn main(rt: HostRuntime) -> io::Result<()> {
-    let mut bytes = inputs::parts_buffer();
-    let mut records = inputs::record_buffer();
-    let mut payload = inputs::payload_buffer();
+    let mut bytes: [u8; PARTS] = buffer(0);
+    let mut records: [u32; RECORDS] = buffer(0);
+    let mut payload: [u8; PAYLOAD] = buffer(0);
     let mut input = rt.reader();
     answer_all(
         &mut input,

@@ -21,8 +21,8 @@ fn numbers_into(numbers: &[u32], out: &mut [u8]) -> usize
     ensures { (result ≤ length out.new) × (result ≡ length (take result out.new)) }
 {
     let mut end = 0;
-    for k in 0..numbers.len() {
-        end += listing_lines::number_into(numbers[k], &mut out[end..]);
+    for &n in numbers {
+        end += listing_lines::number_into(n, &mut out[end..]);
     }
     end
 }
@@ -36,23 +36,12 @@ pub fn print_numbers<W: Write>(out: &mut W, numbers: &[u32]) -> io::Result<()>
     say(out, &row[..end])
 }
 
-// How many of the numbers there are up to the last that isn't the fill.
-fn numbers_used(numbers: &[u32]) -> usize
-    ensures { result ≤ length numbers.now }
+// How many elements there are up to the last that isn't the fill. (Counted down: an `rposition` with a `map_or` would say no more.)
+fn used<T: Copy + PartialEq>(elements: &[T], fill: T) -> usize
+    ensures { result ≤ length elements.now }
 {
-    let mut end = numbers.len();
-    while 0 < end && numbers[end - 1] == FILL_NUMBER {
-        end -= 1;
-    }
-    end
-}
-
-// How many of the bytes there are up to the last that isn't the fill.
-fn bytes_used(bytes: &[u8]) -> usize
-    ensures { result ≤ length bytes.now }
-{
-    let mut end = bytes.len();
-    while 0 < end && bytes[end - 1] == FILL_BYTE {
+    let mut end = elements.len();
+    while 0 < end && elements[end - 1] == fill {
         end -= 1;
     }
     end
@@ -60,21 +49,17 @@ fn bytes_used(bytes: &[u8]) -> usize
 
 // Prints the record numbers, a record to a line.
 pub fn print_records<W: Write>(out: &mut W, records: &[u32]) -> io::Result<()> {
-    let end = numbers_used(records);
-    let mut at = 0;
-    while at < end {
-        let next = inputs::least(at + RECORD, end);
+    for record in records[..used(records, FILL_NUMBER)].chunks(RECORD) {
         say(out, b"record")?;
-        print_numbers(out, &records[at..next])?;
+        print_numbers(out, record)?;
         say(out, b"\n")?;
-        at = next;
     }
     Ok(())
 }
 
 // Prints the payload bytes on one line.
 pub fn print_payload<W: Write>(out: &mut W, payload: &[u8]) -> io::Result<()> {
-    let end = bytes_used(payload);
+    let end = used(payload, FILL_BYTE);
     say(out, b"payload ")?;
     for byte in &payload[..end] {
         write!(out, "{byte:02x}")?;

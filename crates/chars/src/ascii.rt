@@ -11,12 +11,9 @@ pub fn ascii_table(chars: &[u8]) -> [bool; 128]
     ensures { result ≡ ascii_table chars.now }
 {
     let mut table = [false; 128];
-    let mut i = 0;
-    while i < chars.len() {
-        let c = chars[i] as usize;
-        i += 1;
-        if c < 128 {
-            table[c] = true;
+    for &c in chars {
+        if c.is_ascii() {
+            table[usize::from(c)] = true;
         }
     }
     table
@@ -35,15 +32,14 @@ pub fn symbolchar_table() -> [bool; 128]
 }
 
 // What the table says of c; one of 128 or more has no entry.
+#[tactic(auto, unfolding(definition::specs::Chars::in_table), using(lemmas::proofs::Cases::all_tests))]
 fn in_table(table: &[bool; 128], c: u32) -> bool
     ensures { result ≡ in_table table.now c }
 {
-    if c < ASCII_LIMIT {
-        return table[c as usize];
-    }
-    false
+    c < ASCII_LIMIT && table[c as usize]
 }
 
+#[tactic(auto, unfolding(definition::specs::Chars::is_op_char))]
 pub fn is_op_char(ops: &[bool; 128], c: u32) -> bool
     requires { ops.now ≡ ascii_table op_char_cps }
     ensures { result ≡ is_op_char c }
@@ -51,6 +47,7 @@ pub fn is_op_char(ops: &[bool; 128], c: u32) -> bool
     in_table(ops, c)
 }
 
+#[tactic(auto, unfolding(definition::specs::Chars::is_symbolchar))]
 pub fn is_symbolchar(symbols: &[bool; 128], c: u32) -> bool
     requires { symbols.now ≡ ascii_table symbolchar_cps }
     ensures { result ≡ is_symbolchar c }

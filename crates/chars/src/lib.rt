@@ -17,78 +17,60 @@ use lowercase::is_ll;
 
 const ASCII_LIMIT: u32 = 128;
 
+#[tactic(auto, unfolding(definition::specs::Chars::is_lower), using(lemmas::proofs::Cases::all_tests))]
 pub fn is_lower(c: u32) -> bool
     ensures { result ≡ is_lower c }
 {
     if c < ASCII_LIMIT {
-        return between(b'a', b'z', c);
+        between(b'a', b'z', c)
+    } else {
+        is_ll(c)
     }
-    is_ll(c)
 }
 
+#[tactic(auto, unfolding(definition::specs::Chars::is_ident_start), using(lemmas::proofs::Cases::all_tests))]
 pub fn is_ident_start(c: u32) -> bool
     ensures { result ≡ is_ident_start c }
 {
-    if c == UNDERSCORE {
-        return true;
-    }
-    if c == QUOTE {
-        return true;
-    }
-    is_lower(c)
+    c == UNDERSCORE || c == QUOTE || is_lower(c)
 }
 
+#[tactic(auto, unfolding(definition::specs::Chars::is_constructor_start), using(lemmas::proofs::Cases::all_tests))]
 pub fn is_constructor_start(file: &[u8], c: u32) -> bool
     requires { class_check file.now ≡ 0 }
     ensures { result ≡ is_constructor_start file.now c }
 {
     if c < ASCII_LIMIT {
-        return between(b'A', b'Z', c);
+        between(b'A', b'Z', c)
+    } else {
+        is_lu(file, c) || is_lt(file, c)
     }
-    if is_lu(file, c) {
-        return true;
-    }
-    is_lt(file, c)
 }
 
+#[tactic(auto, unfolding(definition::specs::Chars::is_ident_char, crate::specs::Parts::ascii_ident_char), using(lemmas::proofs::Cases::all_tests))]
 pub fn is_ident_char(file: &[u8], c: u32) -> bool
     requires { class_check file.now ≡ 0 }
     ensures { result ≡ is_ident_char file.now c }
 {
     if c < ASCII_LIMIT {
-        return is_ascii_ident_char(c);
+        is_ascii_ident_char(c)
+    } else {
+        is_ll(c) || is_lu(file, c) || is_lo(file, c) || is_lm(file, c)
     }
-    if is_ll(c) {
-        return true;
-    }
-    if is_lu(file, c) {
-        return true;
-    }
-    if is_lo(file, c) {
-        return true;
-    }
-    is_lm(file, c)
 }
 
+#[tactic(auto, unfolding(definition::specs::Chars::is_anywhite, crate::specs::Parts::listed_white), using(lemmas::proofs::Cases::all_tests))]
 pub fn is_anywhite(file: &[u8], c: u32) -> bool
     requires { class_check file.now ≡ 0 }
     ensures { result ≡ is_anywhite file.now c }
 {
-    if is_listed_white(c) {
-        return true;
-    }
-    if c < ASCII_LIMIT {
-        return false;
-    }
-    is_zs(file, c)
+    is_listed_white(c) || (ASCII_LIMIT <= c && is_zs(file, c))
 }
 
+#[tactic(auto, unfolding(definition::specs::Chars::is_uoperator), using(lemmas::proofs::Cases::all_tests))]
 pub fn is_uoperator(file: &[u8], c: u32) -> bool
     requires { class_check file.now ≡ 0 }
     ensures { result ≡ is_uoperator file.now c }
 {
-    if c < ASCII_LIMIT {
-        return false;
-    }
-    is_sm(file, c)
+    ASCII_LIMIT <= c && is_sm(file, c)
 }

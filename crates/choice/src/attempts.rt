@@ -7,25 +7,25 @@ ghost use Rattle.definition.specs.Matchers.{match_lit};
 ghost use Rattle.definition.specs.Select.{keep, found};
 
 use crate::{keep, nothing};
-use definition::{Choice, Match};
+use definition::Choice;
 use match_lit::match_lit;
 
 // What a matcher's end is at a place.
-pub fn found(i: usize, place: u32, m: Match) -> Choice
+pub fn found(i: usize, place: u32, m: Option<usize>) -> Choice
     ensures { result ≡ found i place 0 m }
 {
-    let Match::To(end) = m else {
+    let Some(end) = m else {
         return nothing(i);
     };
     Choice {
-        place: place,
-        end: end,
+        place,
+        end,
         word: 0,
     }
 }
 
 // The source's `try_`, after other places.
-pub fn try_place(best: Choice, i: usize, place: u32, m: Match) -> Choice
+pub fn try_place(best: Choice, i: usize, place: u32, m: Option<usize>) -> Choice
     ensures { result ≡ keep best (found i place 0 m) }
 {
     keep(best, found(i, place, m))
@@ -42,14 +42,14 @@ pub fn try_word(
 ) -> Choice
     ensures { result ≡ keep best (found i place number (match_lit text.now word.now i)) }
 {
-    let Match::To(end) = match_lit(text, word, i) else {
+    let Some(end) = match_lit(text, word, i) else {
         return keep(best, nothing(i));
     };
     keep(
         best,
         Choice {
-            place: place,
-            end: end,
+            place,
+            end,
             word: number,
         },
     )

@@ -23,6 +23,7 @@ pub fn nothing(i: usize) -> Choice
 }
 
 // The new choice if it ends later, or else the best so far.
+#[tactic(auto, unfolding(definition::specs::Select::keep))]
 pub fn keep(best: Choice, new: Choice) -> Choice
     ensures { result ≡ keep best new }
 {

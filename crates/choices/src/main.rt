@@ -10,15 +10,17 @@
 
 ghost use Rattle.select.specs.Standing.{Lent};
 
+use definition::answers::RunRefusal;
 use definition::{Choice, Sequence};
-use inputs::{class_buffer, read_classes, read_full, short_text_buffer};
+use inputs::{CLASSES, SHORT_TEXT, buffer, read_classes, read_full};
 use std::io;
 use std::io::Write;
 
 const TEXT_LIMIT: usize = 60000;
 
 // A line for a refusal.
-fn refuse<W: Write>(out: &mut W, number: u32) -> io::Result<()> {
+fn refuse<W: Write>(out: &mut W, refusal: RunRefusal) -> io::Result<()> {
+    let number = refusal.number();
     writeln!(out, "REFUSED {number}")
 }
 
@@ -53,14 +55,14 @@ fn list<W: Write>(
 // The lines of a text under a class file, or what refuses them.
 fn choices<W: Write>(out: &mut W, text: &[u8], file: &[u8]) -> io::Result<()> {
     if TEXT_LIMIT < text.len() {
-        return refuse(out, 6);
+        return refuse(out, RunRefusal::TextLength);
     }
-    let refusal = class_file::check::class_check(file);
-    if refusal != 0 {
-        return refuse(out, refusal);
+    if let Err(refusal) = class_file::check::class_check(file) {
+        return refuse(out, RunRefusal::Classes(refusal));
     }
-    if utf8::characters::first_bad(text) != text.len() {
-        return refuse(out, 8);
+    let bad = utf8::characters::first_bad(text);
+    if bad < text.len() {
+        return refuse(out, RunRefusal::IllFormed { offset: bad as u32 });
     }
     list(
         out,
@@ -72,8 +74,8 @@ fn choices<W: Write>(out: &mut W, text: &[u8], file: &[u8]) -> io::Result<()> {
 }
 
 fn main(rt: HostRuntime) -> io::Result<()> {
-    let mut text = short_text_buffer();
-    let mut file = class_buffer();
+    let mut text: [u8; SHORT_TEXT] = buffer(0);
+    let mut file: [u8; CLASSES] = buffer(0);
     let mut input = rt.reader();
     let length = read_full(&mut input, &mut text)?;
     let size = read_classes(&rt, &mut file)?;

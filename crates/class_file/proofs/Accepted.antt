@@ -1,5 +1,5 @@
--- What a class file says where its bytes stand: the layout's laws, the ranges of a class read by their index, and what
--- the class check's acceptance gives. Rests on the definition's `laid_out` and `class_check`. Assumes nothing.
+-- What a class file says where its bytes stand: the layout's laws, the ranges of a class as the chunks that spell them, and
+-- what the class check's acceptance gives. Rests on the definition's `laid_out` and `class_check`. Assumes nothing.
 use Prim.Native.Nat.{ℕ, zero, suc, ◌+◌, ◌-◌, ◌*◌, ◌/◌, ◌≤◌, ◌<◌, zero-le}
 use mathlib.Core.Path.{◌≡◌, refl, sym, ap, ◌∙◌}
 use mathlib.Core.Bool.{Bool, true, false, ◌&&◌}
@@ -8,12 +8,16 @@ use native.Mathlib.Omega.{arith}
 use native.Mathlib.Nat.{le_of_suc-le-suc, not-suc-le-zero, le_refl, eq-or-lt_of_le}
 use native.Mathlib.Numerals.{add-one}
 use lib.Dec.{eqb}
-use lib.ListN.{length, get_or, drop}
-use lib.Seq.{drop-drop}
+use mathlib.Core.List.{List, ◌∷◌}
+use lib.ListN.{length, take, drop, length-drop}
+use lib.Seq.{get_or-take, take-take}
+use Rattle.std.specs.Prelude.{map}
+use Rattle.std.specs.Simd.{first_chunks}
+use Rattle.std.proofs.lemmas.List.{drop-take, length-take}
+use Rattle.class_file.specs.Search.{range_at}
 use borrow.Author.Tests.{eqb-true, le-ltb, lt-ltb, eq-eqb, ne_eqb}
 use Rattle.definition.specs.Basics.{Bytes}
 use Rattle.definition.specs.ClassFile.{Range, little_endian, class_count, class_offset, counts_before, class_start, read_ranges, ranges_of, bad_class_length, offsets_right, laid_out, ascending, ranges_right, class_check}
-use Rattle.class_file.specs.Ends.{first_at, last_at}
 use Rattle.lemmas.proofs.Cases.{by_bool, by_order, never}
 use Rattle.class_file.proofs.Tests.{all_each, all_more, all_fails}
 
@@ -111,45 +115,34 @@ module _ (f : Bytes) (l : Laid f) where
   pub header_within : 48 ≤ length f
   header_within = omega (arith, place_after_header f 6, l.whole)
 
--- ---- the ranges of a class, by their index
+-- ---- the ranges of a class, by the chunks of eight bytes that spell them
 
--- as many ranges are read as are asked for
-pub length_read : (n : ℕ) (l : Bytes) → length (read_ranges n l) ≡ n
+-- the first four bytes of a part are those of the whole
+spells_front : (n : ℕ) (l : Bytes) → 4 ≤ n → little_endian (take n l) ≡ little_endian l
+unfolding little_endian
+spells_front n l h =
+    rw (little_endian, get_or-take n l 0 0 (omega arith), get_or-take n l 1 0 (omega arith), get_or-take n l 2 0 (omega arith), get_or-take n l 3 0 (omega arith))
+
+-- the range that the first eight bytes spell
+range_front : (l : Bytes) → range_at (take 8 l) ≡ (little_endian l, little_endian (drop 4 l))
+range_front l = rw (spells_front 8 l (omega arith), drop-take 4 4 l, spells_front 4 (drop 4 l) (omega arith))
+
+-- the chunks of eight bytes spell the ranges one after the other
+chunks_read : (n : ℕ) (l : Bytes) → map range_at (first_chunks 8 n (take (8 * n) l)) ≡ read_ranges n l
 unfolding read_ranges
-length_read zero l = refl
-length_read (suc n) l = ap suc (length_read n (drop 8 l))
+chunks_read zero l = refl
+chunks_read (suc n) l =
+    let e : 8 * suc n ≡ 8 + 8 * n = omega arith in
+    rw (e, take-take 8 (8 + 8 * n) l (omega arith), drop-take 8 (8 * n) l, range_front l)
+    (ap (λ (rs : List Range). (little_endian l, little_endian (drop 4 l)) ∷ rs) (chunks_read n (drop 8 l)))
 
--- a class has as many ranges as the header counts
-pub length_ranges : (f : Bytes) (k : ℕ) → length (ranges_of f k) ≡ class_count f k
+-- so do those of the part of the file where a class stands
+pub class_chunks : (f : Bytes) (k start count n : ℕ) → start ≡ class_start f k → count ≡ class_count f k → n ≡ 8 * count → start + n ≤ length f
+    → map range_at (first_chunks 8 (length (take n (drop start f)) / 8) (take n (drop start f))) ≡ ranges_of f k
 unfolding ranges_of
-length_ranges f k = length_read (class_count f k) (drop (class_start f k) f)
-
--- the numbers of range i stand 8 * i bytes after the first
-read_at : (n : ℕ) (l : Bytes) (i : ℕ) → i < n → get_or (read_ranges n l) i (0, 0) ≡ (little_endian (drop (8 * i) l), little_endian (drop (8 * i + 4) l))
-unfolding read_ranges
-read_at zero l i h = absurd (not-suc-le-zero h)
-read_at (suc n) l zero h = refl
-read_at (suc n) l (suc i) h =
-    let e : 8 + 8 * i ≡ 8 * suc i = omega arith in
-    let q : 8 + (8 * i + 4) ≡ 8 * suc i + 4 = omega arith in
-    rw (drop-drop (8 * i) 8 l, drop-drop (8 * i + 4) 8 l, e, q) at (read_at n (drop 8 l) i (le_of_suc-le-suc h))
-
--- class k begins at start and has more than i ranges
-module _ (f : Bytes) (k i start count n : ℕ) (from : start ≡ class_start f k) (counted : count ≡ class_count f k) (h : i < count) where
-  -- range i stands 8 * i bytes after the class's start
-  range_read : get_or (ranges_of f k) i (0, 0) ≡ (little_endian (drop (8 * i) (drop start f)), little_endian (drop (8 * i + 4) (drop start f)))
-  unfolding ranges_of
-  range_read = rw from (read_at (class_count f k) (drop (class_start f k) f) i (rw counted at h))
-
-  -- a number that is read there is its first code point
-  pub first_read : n ≡ little_endian (drop (start + 8 * i) f) → n ≡ first_at (ranges_of f k) i
-  first_read e = e ∙ sym (ap (λ (r : Range). r.0) range_read ∙ ap little_endian (drop-drop (8 * i) start f))
-
-  -- a number that is read 4 bytes later is its last
-  pub last_read : n ≡ little_endian (drop (start + 8 * i + 4) f) → n ≡ last_at (ranges_of f k) i
-  last_read e =
-      let q : start + (8 * i + 4) ≡ start + 8 * i + 4 = omega arith in
-      e ∙ sym (ap (λ (r : Range). r.1) range_read ∙ ap little_endian (drop-drop (8 * i + 4) start f ∙ ap (λ (m : ℕ). drop m f) q))
+class_chunks f k start count n from counted size within =
+    let whole : length (take n (drop start f)) / 8 ≡ count = simp (length-take, length-drop) (omega arith) in
+    rw (whole, size, ranges_of, ← from, ← counted) (chunks_read count (drop start f))
 
 -- ---- the class check
 

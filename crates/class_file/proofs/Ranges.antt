@@ -1,7 +1,9 @@
 -- What an ascending list says of its ranges, and the test `ascending` range by range. It is stated over any list, so the classes of a
 -- file and the built-in table share it. Rests on the definition. Assumes nothing.
 use Prim.Native.Nat.{ℕ, zero, suc, ◌+◌, ◌≤◌, ◌<◌}
-use mathlib.Core.Path.{◌≡◌, refl, ap, ◌∙◌}
+use Rattle.std.specs.Prelude.{map}
+use Rattle.std.proofs.lemmas.List.{length-map, get_or-map}
+use mathlib.Core.Path.{◌≡◌, refl, sym, ap, ◌∙◌}
 use mathlib.Core.Bool.{true, false, ◌&&◌}
 use mathlib.Core.List.{List, [], ◌∷◌}
 use native.Mathlib.Omega.{arith}
@@ -51,6 +53,13 @@ pub record Reads (rs : List Range) (i first last : ℕ) : Type 0 where
   pub there : i < length rs
   pub is_first : first ≡ first_at rs i
   pub is_last : last ≡ last_at rs i
+
+-- so of the ranges that the elements of a list give
+pub reads_at : {X : Type 0} (ends : X → Range) (xs : List X) (i : ℕ) (d : X) (r : Range) → i < length xs → r ≡ ends (get_or xs i d)
+    → Reads (map ends xs) i r.0 r.1
+reads_at ends xs i d r h e =
+    let q : r ≡ get_or (map ends xs) i (0, 0) = e ∙ sym (get_or-map ends xs i d (0, 0) h) in
+    record { there = rw length-map h; is_first = ap (λ (p : Range). p.0) q; is_last = ap (λ (p : Range). p.1) q }
 
 module _ (n : ℕ) (rs : List Range) (i first last : ℕ) (r : Reads rs i first last) where
   -- a range that is right leaves those after it

@@ -5,3 +5,4 @@ mod Limits
 mod Utf16Cases
 pub mod Samples
 mod Closing
+pub mod Refusals

@@ -1,5 +1,5 @@
 -- `blob` and `use_lang`. The contents are the text's own bytes, from byte `from` on: `acc` holds them in chunks.
-use Rattle.std.specs.Prelude.{ℕ, Bool, true, false, ◌||◌, ltb, leb, eqb, length, if◌then◌else◌}
+use Rattle.std.specs.Prelude.{ℕ, Bool, true, false, ◌||◌, ltb, leb, eqb, length, if◌then◌else◌, Some, None}
 use Rattle.definition.specs.Basics.{Bytes, Turn, again, done, loop, fuel, ch}
 use Rattle.definition.specs.Text.{lexeme, run_end, after}
 use Rattle.definition.specs.Chars.{is_newline_char}
@@ -11,7 +11,6 @@ use Rattle.definition.specs.State.{advance, new_line}
 use Rattle.definition.specs.Item.{Step, blob_tok, error_here}
 use Rattle.definition.specs.declared.Pos.{Pos}
 use Rattle.definition.specs.declared.State.{State}
-use Rattle.definition.specs.declared.Match.TheVariants.{To, Nothing}
 
 -- what a blob's header says: its name, the position after it, and its start, by its position and its byte. Document 02: "a blob at its
 -- header"
@@ -32,14 +31,14 @@ abbrev pub blob_turn : Bytes → ℕ → Header → State → Turn State Step
 blob_turn s from h st =
     let i = st.offset in
     elim (match_lit s (cps "```") i) [
-      | To e ↦ done (
+      | Some e ↦ done (
           let next = advance st e in
           blob_tok (kind "BLOB") h.name (lexeme s from i) h.start (cur_pos s st) (cur_pos s next) h.pos h.snap next)
-      | Nothing ↦ elim (leb (length s) i) [
+      | None ↦ elim (leb (length s) i) [
         | true ↦ done (unterminated s st)
         | false ↦ elim (match_newline s i) [
-          | To nl ↦ again (new_line (advance st nl))
-          | Nothing ↦
+          | Some nl ↦ again (new_line (advance st nl))
+          | None ↦
               let j = run_end blob_stop s i in
               again (advance st (if ltb i j then j else after s i))
         ]
@@ -60,7 +59,7 @@ lang_turn s from h st =
       | true ↦ done (blob_tok (kind "USE_LANG_BLOB") h.name (lexeme s from i) h.start p p h.pos h.snap st)
       | false ↦ elim (ltb i j) [
         | true ↦ again (advance st j)
-        | false ↦ elim (match_newline s i) [ To nl ↦ again (new_line (advance st nl)) | Nothing ↦ done (unterminated s st) ]
+        | false ↦ elim (match_newline s i) [ Some nl ↦ again (new_line (advance st nl)) | None ↦ done (unterminated s st) ]
       ]
     ]
 

@@ -2,7 +2,7 @@
 -- state's depth: "closing an inner comment emits the comment accumulated so far", and so does the text's end, once for each
 -- level. So a step gives one piece, and a later step goes on after it. "Comments come in closing order; `lex_all`
 -- lists them reversed".
-use Rattle.std.specs.Prelude.{ℕ, ◌+◌, Bool, true, false, ◌&&◌, ◌||◌, ◌++◌, ltb, leb, eqb, length}
+use Rattle.std.specs.Prelude.{ℕ, ◌+◌, Bool, true, false, ◌&&◌, ◌||◌, ◌++◌, ltb, leb, eqb, length, Some, None}
 use Rattle.definition.specs.Basics.{Bytes, Turn, again, done, loop, fuel, ch}
 use Rattle.definition.specs.Text.{byte_is, lexeme, run_end, after}
 use Rattle.definition.specs.Chars.{is_newline_char}
@@ -13,7 +13,6 @@ use Rattle.definition.specs.Trim.{maybe_trim_lines}
 use Rattle.definition.specs.State.{advance, new_line, one_more_comment, deeper, close_comment}
 use Rattle.definition.specs.Item.{Step, add_comment}
 use Rattle.definition.specs.declared.State.{State}
-use Rattle.definition.specs.declared.Match.TheVariants.{To, Nothing}
 
 unfoldable pub comment_stop : ℕ → Bool
 comment_stop c = eqb c (ch "(") || (eqb c (ch "*") || is_newline_char c)
@@ -35,8 +34,8 @@ comment_turn s from st =
       | false ↦ elim (byte_is (ch "(") s i && byte_is (ch "*") s (i + 1)) [
         | true ↦ again (deeper (advance st (i + 2)))
         | false ↦ elim (match_newline s i) [
-          | To nl ↦ again (new_line (advance st nl))
-          | Nothing ↦ elim (byte_is (ch "*") s i && byte_is (ch ")") s (i + 1)) [
+          | Some nl ↦ again (new_line (advance st nl))
+          | None ↦ elim (byte_is (ch "*") s i && byte_is (ch ")") s (i + 1)) [
             | true ↦ done (terminate s from i true (advance st (i + 2)))
             | false ↦ elim (leb (length s) i) [
               | true ↦ done (terminate s from i false st)

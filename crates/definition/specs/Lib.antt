@@ -15,6 +15,7 @@ pub mod Select
 pub mod Numbers
 pub mod Escapes
 pub mod Trim
+pub mod Answers
 pub mod State
 pub mod Item
 pub mod Comment

@@ -4,15 +4,15 @@ use Rattle.std.specs.Prelude.{ℕ, ◌+◌, ◌-◌, ◌*◌, Bool, true, false,
 use Rattle.definition.specs.Basics.{Bytes, Turn, again, done, loop}
 use Rattle.definition.specs.Text.{first_bad}
 use Rattle.definition.specs.ClassFile.{class_check}
+use Rattle.definition.specs.Answers.{RunAnswer}
 use Rattle.definition.specs.State.{sound}
 use Rattle.definition.specs.Item.{Step, record_size, words}
 use Rattle.definition.specs.Token.{step}
 use Rattle.definition.specs.declared.State.{State}
-use Rattle.definition.specs.declared.RunAnswer.{RunAnswer}
 
 -- the answer, and both buffers
 abbrev pub Outcome : Type 0
-Outcome = RunAnswer × List ℕ × Bytes
+Outcome = RunAnswer State × List ℕ × Bytes
 
 -- ---- buffers
 
@@ -93,7 +93,7 @@ refusal s name f st =
     ]
 
 -- "Any refusal alters no lent buffer and hands back the given state, no items and stop 0"
-abbrev pub refused : ℕ × ℕ → State → RunAnswer
+abbrev pub refused : ℕ × ℕ → State → RunAnswer State
 refused (number, offset) st = record { refusal = number; offset = offset; stop = 0; count = 0; state = st }
 
 unfoldable pub run : Bytes → Bytes → Bytes → State → List ℕ → Bytes → Outcome

@@ -1,7 +1,7 @@
 -- `select`: what is chosen at an offset. Its 50 places are the `try_` calls of the source, in their order; what each leads to is its
 -- rule (Rules).
 -- s is the text, f the class file, i an offset.
-use Rattle.std.specs.Prelude.{ℕ, suc, ◌+◌, Bool, true, false, ◌||◌, List, [], ◌∷◌, ltb, leb, eqb, if◌then◌else◌}
+use Rattle.std.specs.Prelude.{ℕ, suc, ◌+◌, Bool, true, false, ◌||◌, List, [], ◌∷◌, ltb, leb, eqb, if◌then◌else◌, Option, Some, None}
 use Prim.Native.Char.{Char}
 use Prim.Native.String.{String}
 use Rattle.definition.specs.Basics.{Bytes, ch, codes, mem_cp}
@@ -28,8 +28,6 @@ use Rattle.definition.specs.Matchers.{
   match_backtick_ident,
 }
 use Rattle.definition.specs.declared.Choice.{Choice}
-use Rattle.definition.specs.declared.Match.{Match}
-use Rattle.definition.specs.declared.Match.TheVariants.{To, Nothing}
 
 -- ---- the best so far
 
@@ -42,13 +40,13 @@ unfoldable pub keep : Choice → Choice → Choice
 keep best new = if ltb best.end new.end then new else best
 
 -- what a matcher's end is at a place, for a word of its table (0 where it has none)
-abbrev pub found : ℕ → ℕ → ℕ → Match → Choice
-found i place word (To e) = record { place = place; end = e; word = word }
-found i place word Nothing = none_at i
+abbrev pub found : ℕ → ℕ → ℕ → Option ℕ → Choice
+found i place word (Some e) = record { place = place; end = e; word = word }
+found i place word None = none_at i
 
 -- `List.iter`: each word of a table is tried in turn, from word number w on. The source looks up only the words that begin
 -- with the character at i; no other could match
-unfoldable pub try_words : ℕ → ℕ → (Bytes → Match) → ℕ → List String → Choice → Choice
+unfoldable pub try_words : ℕ → ℕ → (Bytes → Option ℕ) → ℕ → List String → Choice → Choice
 try_words i place m w [] best = best
 try_words i place m w (x ∷ xs) best = try_words i place m (suc w) xs (keep best (found i place w (m (cps x))))
 
@@ -60,12 +58,12 @@ try_all (p ∷ ps) best = try_all ps (keep best p)
 -- ---- the places
 
 -- one of the characters of a string, and all symbol characters after it (`sym_after (one_of ..)`)
-unfoldable pub one_of_then_symbols : Bytes → ℕ → String → Match
-one_of_then_symbols s i chars = one (λ c. mem_cp c (codes chars)) s i then λ e. To (star is_symbolchar s e)
+unfoldable pub one_of_then_symbols : Bytes → ℕ → String → Option ℕ
+one_of_then_symbols s i chars = one (λ c. mem_cp c (codes chars)) s i then λ e. Some (star is_symbolchar s e)
 
 -- `sym_after (match_lit ..)`
-unfoldable pub lit_then_symbols : Bytes → ℕ → String → Match
-lit_then_symbols s i word = match_lit s (cps word) i then λ e. To (star is_symbolchar s e)
+unfoldable pub lit_then_symbols : Bytes → ℕ → String → Option ℕ
+lit_then_symbols s i word = match_lit s (cps word) i then λ e. Some (star is_symbolchar s e)
 
 -- what each place finds at i, in order. An `under` is an `if` of the source around some `try_` calls
 unfoldable pub places : Bytes → Bytes → ℕ → List Choice
@@ -74,10 +72,10 @@ places s f i =
     let beyond_ascii = char_has (λ c. leb ascii_limit c) s i in
     let digit = char_has is_digit s i in
     let op_char = char_has is_op_char s i in
-    let lit : String → Match = λ word. match_lit s (cps word) i in
-    let place : ℕ → Match → Choice = λ k m. found i k 0 m in
-    let under : Bool → Match → Match = λ t m. only t m in
-    let table : ℕ → (Bytes → Match) → List String → Choice = λ k m xs. try_words i k m 0 xs (none_at i) in
+    let lit : String → Option ℕ = λ word. match_lit s (cps word) i in
+    let place : ℕ → Option ℕ → Choice = λ k m. found i k 0 m in
+    let under : Bool → Option ℕ → Option ℕ = λ t m. only t m in
+    let table : ℕ → (Bytes → Option ℕ) → List String → Choice = λ k m xs. try_words i k m 0 xs (none_at i) in
     table 1 (λ x. match_lit s x i) (words_of early_literals)  -- 1 REarly
     ∷ place 2 (under (is "`") (lit "```" then match_ident s f))  -- 2 RTripleBacktick
     ∷ place 3 (under (is "#") (lit "#lang-" then match_ident s f))  -- 3 RLang
@@ -88,7 +86,7 @@ places s f i =
     ∷ place 8 (under beyond_ascii (match_newline s i))  -- 8 RNewline
     ∷ place 9 (under (is "'") (match_char_lit s i false))  -- 9 RCharLit
     ∷ place 10 (under (is "'") (match_char_lit s i true))  -- 10 RCharLitB
-    ∷ place 11 (under (is "`") (To (i + 1)))  -- 11 RBacktick
+    ∷ place 11 (under (is "`") (Some (i + 1)))  -- 11 RBacktick
     ∷ table 12 (λ x. match_lit s x i then plus is_op_char s) kw_op_words  -- 12 RKwOp
     ∷ place 13 (under (is ";") (lit ";;"))  -- 13 RSemiSemi
     ∷ place 14 (match_ident s f i)  -- 14 RIdent
@@ -108,14 +106,14 @@ places s f i =
     ∷ place 28 (under (is "(") (lit "(*"))  -- 28 RCommentStart
     ∷ place 29 (under (is "/") (lit "// IN F*:"))  -- 29 RInFStar
     ∷ place 30 (under (is "/") (lit "//"))  -- 30 RLineComment
-    ∷ place 31 (under (is "\"") (To (i + 1)))  -- 31 RString
+    ∷ place 31 (under (is "\"") (Some (i + 1)))  -- 31 RString
     ∷ place 32 (under (is "`") (match_backtick_ident s i))  -- 32 RBacktickIdent
     ∷ place 33 (under (is "<") (lit "<|"))  -- 33 RPipeLeft
     ∷ place 34 (under (is "|") (lit "|>"))  -- 34 RPipeRight
     ∷ place 35 (under (is ".") (lit ".."))  -- 35 RDotDot
     ∷ table 36 (λ x. match_lit s x i) (words_of op_tokens)  -- 36 ROpToken
-    ∷ place 37 (under op_char (under (is "<") (To (i + 1))))  -- 37 RLt
-    ∷ place 38 (under op_char (under (is ">") (To (star is_symbolchar s (i + 1)))))  -- 38 RGt
+    ∷ place 37 (under op_char (under (is "<") (Some (i + 1))))  -- 37 RLt
+    ∷ place 38 (under op_char (under (is ">") (Some (star is_symbolchar s (i + 1)))))  -- 38 RGt
     ∷ place 39 (under op_char (lit_then_symbols s i "**"))  -- 39 ROp OPINFIX3R
     ∷ place 40 (under op_char (lit_then_symbols s i "|->"))  -- 40 ROp OPINFIX4
     ∷ place 41 (under op_char (one_of_then_symbols s i "!~?"))  -- 41 ROp OPPREFIX

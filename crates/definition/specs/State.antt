@@ -2,9 +2,9 @@
 use Rattle.std.specs.Prelude.{ℕ, ◌+◌, ◌-◌, Bool, true, false, not, ◌&&◌, List, [], ◌∷◌, ltb, leb, eqb, length, get_or, if◌then◌else◌}
 use Rattle.definition.specs.Basics.{Bytes}
 use Rattle.definition.specs.Position.{is_continuation}
+use Rattle.definition.specs.Answers.{StartAnswer}
 use Rattle.definition.specs.declared.Pos.{Pos}
 use Rattle.definition.specs.declared.State.{State}
-use Rattle.definition.specs.declared.StartAnswer.{StartAnswer}
 
 abbrev pub no_pos : Pos
 no_pos = record { line = 0; col = 0 }
@@ -146,8 +146,12 @@ started line column = record {
   comment = no_pos;
 }
 
-unfoldable pub start : ℕ → ℕ → StartAnswer
+-- a refused start gives nine zeros
+abbrev pub nine_zeros : State
+nine_zeros = started 0 0
+
+unfoldable pub start : ℕ → ℕ → StartAnswer State
 start line column =
-    if ltb 1000000 line then record { refusal = 1; state = started 0 0 } else
-    if ltb 1000000 column then record { refusal = 2; state = started 0 0 } else
+    if ltb 1000000 line then record { refusal = 1; state = nine_zeros } else
+    if ltb 1000000 column then record { refusal = 2; state = nine_zeros } else
     record { refusal = 0; state = started line column }

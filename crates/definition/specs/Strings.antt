@@ -1,5 +1,5 @@
 -- `string_lit`.
-use Rattle.std.specs.Prelude.{ℕ, ◌+◌, Bool, true, false, ◌||◌, [], ◌++◌, ltb, leb, eqb, length}
+use Rattle.std.specs.Prelude.{ℕ, ◌+◌, Bool, true, false, ◌||◌, [], ◌++◌, ltb, leb, eqb, length, Option, Some, None}
 use Rattle.definition.specs.Basics.{Bytes, Turn, again, done, loop, fuel, ch}
 use Rattle.definition.specs.Text.{byte_is, lexeme, star, run_end}
 use Rattle.definition.specs.Chars.{is_newline_char, is_anywhite}
@@ -12,14 +12,12 @@ use Rattle.definition.specs.Item.{Step, tok, error_here}
 use Rattle.definition.specs.declared.Pos.{Pos}
 use Rattle.definition.specs.declared.State.{State}
 use Rattle.definition.specs.declared.Extra.TheVariants.{NoExtra}
-use Rattle.definition.specs.declared.Match.{Match}
-use Rattle.definition.specs.declared.Match.TheVariants.{To, Nothing}
 
 unfoldable pub string_stop : ℕ → Bool
 string_stop c = eqb c (ch "\\") || (eqb c (ch "\"") || is_newline_char c)
 
 -- the escape of a low half
-unfoldable pub match_low_half : Bytes → ℕ → Match
+unfoldable pub match_low_half : Bytes → ℕ → Option ℕ
 match_low_half s i = only (is_low_half (unescape s i)) (match_escape s i)
 
 -- an escape that ends at e. Document 02: "In a string, `\u` D800 to DBFF followed at once by `\u` DC00 to DFFF is one character". Any other
@@ -29,8 +27,8 @@ escape_turn s st acc e =
     let c = unescape s st.offset in
     elim (is_surrogate c) [
       | true ↦ elim (only (is_high_half c) (match_low_half s e)) [
-        | To pair_end ↦ again (advance st pair_end, acc ++ string_of_cp (joined c (unescape s e)))
-        | Nothing ↦ done (error_here s st 7)
+        | Some pair_end ↦ again (advance st pair_end, acc ++ string_of_cp (joined c (unescape s e)))
+        | None ↦ done (error_here s st 7)
       ]
       | false ↦ again (advance st e, acc ++ string_of_cp c)
     ]
@@ -43,12 +41,12 @@ string_turn s f from sp (st, acc) =
     elim (ltb i j) [
       | true ↦ again (advance st j, acc ++ lexeme s i j)
       | false ↦ elim (only (byte_is (ch "\\") s i) (match_newline s (i + 1))) [
-        | To nl1 ↦ again (new_line (advance st (star (is_anywhite f) s nl1)), acc)
-        | Nothing ↦ elim (match_newline s i) [
-          | To nl ↦ again (new_line (advance st nl), acc ++ lexeme s i nl)
-          | Nothing ↦ elim (match_escape s i) [
-            | To esc ↦ escape_turn s st acc esc
-            | Nothing ↦ elim (byte_is (ch "\"") s i) [
+        | Some nl1 ↦ again (new_line (advance st (star (is_anywhite f) s nl1)), acc)
+        | None ↦ elim (match_newline s i) [
+          | Some nl ↦ again (new_line (advance st nl), acc ++ lexeme s i nl)
+          | None ↦ elim (match_escape s i) [
+            | Some esc ↦ escape_turn s st acc esc
+            | None ↦ elim (byte_is (ch "\"") s i) [
               | true ↦ done (let st = advance st (i + 1) in tok (kind "STRING") acc from sp (cur_pos s st) NoExtra st)
               | false ↦ elim (leb (length s) i) [
                 | true ↦ done (error_here s st 1)

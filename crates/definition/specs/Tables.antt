@@ -1,7 +1,6 @@
 -- The seven tables of words, as the source spells them and in its order.
-use Rattle.std.specs.Prelude.{ℕ, true, false, List, [], ◌∷◌, map, get_or}
+use Rattle.std.specs.Prelude.{ℕ, true, false, List, [], ◌∷◌, map, get_or, Option, Some, None}
 use Prim.Native.String.{String}
-use Rattle.std.proofs.Math.Option.{Option, none, some}
 use Rattle.definition.specs.Basics.{Bytes, codes, same}
 use Rattle.definition.specs.Utf8.{encode_all}
 
@@ -42,8 +41,8 @@ entry table w = get_or table w no_entry
 
 -- `M.try_find`
 unfoldable pub find : Bytes → List Entry → Option Entry
-find id [] = none
-find id (e ∷ es) = elim (same (cps e.word) id) [ true ↦ some e | false ↦ find id es ]
+find id [] = None
+find id (e ∷ es) = elim (same (cps e.word) id) [ true ↦ Some e | false ↦ find id es ]
 
 unfoldable pub keywords : List Entry
 keywords =

@@ -1,16 +1,10 @@
 -- Reading a text: the source's `get`, `byte`, `next` and `lexeme`, and document 01's first offset where no legal sequence starts.
-use Rattle.std.specs.Prelude.{ℕ, ◌+◌, Bool, true, false, not, ltb, eqb, length, get_or}
+use Rattle.std.specs.Prelude.{ℕ, ◌+◌, Bool, true, false, not, ltb, eqb, length, get_or, Option, Some, None}
 use Rattle.std.proofs.Math.Seq.{slice}
 use Rattle.definition.specs.Basics.{Bytes, Turn, again, done, loop, fuel}
 use Rattle.definition.specs.Utf8.{sequence_at}
 use Rattle.definition.specs.declared.Sequence.{Sequence}
 use Rattle.definition.specs.declared.Sequence.TheVariants.{Char, Bad, End}
-use Rattle.definition.specs.declared.Letter.{Letter}
-use Rattle.definition.specs.declared.Letter.TheVariants.{Code, Past}
-use Rattle.definition.specs.declared.Octet.{Octet}
-use Rattle.definition.specs.declared.Octet.TheVariants.{Byte, Past as No_byte}
-use Rattle.definition.specs.declared.Match.{Match}
-use Rattle.definition.specs.declared.Match.TheVariants.{To, Nothing}
 
 -- what is done at an offset, with the character there and the offset after it, or with none. A run refuses a text that
 -- isn't legal, so that at every offset it comes to there is a character or the end
@@ -20,16 +14,16 @@ with_char Bad i f x = x
 with_char End i f x = x
 
 -- `get`: the character at i
-unfoldable pub get : Bytes → ℕ → Letter
-get s i = with_char (sequence_at s i) i (λ c j. Code c) Past
+unfoldable pub get : Bytes → ℕ → Option ℕ
+get s i = with_char (sequence_at s i) i (λ c j. Some c) None
 
 -- `next`: the offset after the character at i
-unfoldable pub next : Bytes → ℕ → Match
-next s i = with_char (sequence_at s i) i (λ c j. To j) Nothing
+unfoldable pub next : Bytes → ℕ → Option ℕ
+next s i = with_char (sequence_at s i) i (λ c j. Some j) None
 
 -- `byte`: the byte at i
-unfoldable pub byte : Bytes → ℕ → Octet
-byte s i = elim (ltb i (length s)) [ true ↦ Byte (get_or s i 0) | false ↦ No_byte ]
+unfoldable pub byte : Bytes → ℕ → Option ℕ
+byte s i = elim (ltb i (length s)) [ true ↦ Some (get_or s i 0) | false ↦ None ]
 
 -- the character, or the byte, at i passes a test; past the end none does
 unfoldable pub char_has : (ℕ → Bool) → Bytes → ℕ → Bool

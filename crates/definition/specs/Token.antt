@@ -1,8 +1,7 @@
 -- `next_token`: what is done with each choice. A step of the lexer is one item, with the state after it.
 -- s is the text, name the file's name, f the class file.
-use Rattle.std.specs.Prelude.{ℕ, ◌+◌, ◌-◌, Bool, true, false, List, [], ◌∷◌, ◌++◌, ltb, leb, eqb, length, take}
+use Rattle.std.specs.Prelude.{ℕ, ◌+◌, ◌-◌, Bool, true, false, List, [], ◌∷◌, ◌++◌, ltb, leb, eqb, length, take, Some, None}
 use Prim.Native.String.{String}
-use Rattle.std.proofs.Math.Option.{none, some}
 use Rattle.definition.specs.Basics.{Bytes, Turn, again, done, loop, fuel, ch, same}
 use Rattle.definition.specs.Text.{lexeme}
 use Rattle.definition.specs.Tables.{Entry, KwOp, cps, find, keywords, constructors, uoperators}
@@ -85,7 +84,7 @@ finish_entry s st e x = finish s st e (kind x.kind) (cps x.text)
 abbrev pub finish_word : Bytes → State → ℕ → List Entry → String → TokenTurn
 finish_word s st e table k =
     let id = lexeme s st.offset e in
-    elim (find id table) [ some x ↦ finish_entry s st e x | none ↦ finish s st e (kind k) id ]
+    elim (find id table) [ Some x ↦ finish_entry s st e x | None ↦ finish s st e (kind k) id ]
 
 -- the header of a blob whose name begins after n bytes
 abbrev pub blob_header : Bytes → State → ℕ → ℕ → Header

@@ -5,7 +5,8 @@ use Rattle.std.specs.Prelude.{ℕ, zero, suc, ◌-◌, Bool, true, false, ◌&&�
 use Rattle.definition.specs.Basics.{Bytes, again, done, loop, fuel}
 use Rattle.definition.specs.Text.{after}
 use Rattle.definition.specs.Position.{Weight, col_by}
-use Rattle.definition.specs.State.{state_words, sound, start}
+use Rattle.definition.specs.Answers.{StartAnswer, RunAnswer}
+use Rattle.definition.specs.State.{state_words, sound, start, nine_zeros}
 use Rattle.definition.specs.Item.{Step}
 use Rattle.definition.specs.Token.{token_turn, step}
 use Rattle.definition.specs.Run.{put, run_items, refusal}
@@ -16,8 +17,6 @@ use Rattle.definition.specs.declared.Item.{Item}
 use Rattle.definition.specs.declared.Extra.{Extra}
 use Rattle.definition.specs.declared.Extra.TheVariants.{NoExtra, CharLit, Blob, LexError, Comment}
 use Rattle.definition.specs.declared.Utf16State.{Utf16State}
-use Rattle.definition.specs.declared.Utf16StartAnswer.{Utf16StartAnswer}
-use Rattle.definition.specs.declared.Utf16RunAnswer.{Utf16RunAnswer}
 
 -- "A character above U+FFFF counts two units, any other counts one."
 unfoldable pub utf16 : Weight
@@ -147,8 +146,12 @@ second_after w s name f (suc n) g = second_after w s name f n (second_next w s n
 
 -- ---- start
 
+-- a refused start gives eleven zeros
+abbrev pub utf16_zeros : Utf16State
+utf16_zeros = record { first = nine_zeros; column = 0; comment = 0 }
+
 -- "Its start puts the given column in both": in both columns of the line start
-unfoldable pub utf16_start : ℕ → ℕ → Utf16StartAnswer
+unfoldable pub utf16_start : ℕ → ℕ → StartAnswer Utf16State
 utf16_start line column =
     let a = start line column in
     record { refusal = a.refusal; state = record { first = a.state; column = a.state.column; comment = 0 } }
@@ -172,9 +175,9 @@ utf16_refusal s name f g =
 
 -- the answer, and both buffers
 abbrev pub Utf16Outcome : Type 0
-Utf16Outcome = Utf16RunAnswer × List ℕ × Bytes
+Utf16Outcome = RunAnswer Utf16State × List ℕ × Bytes
 
-abbrev pub utf16_answer : ℕ × ℕ → ℕ → ℕ → Utf16State → Utf16RunAnswer
+abbrev pub utf16_answer : ℕ × ℕ → ℕ → ℕ → Utf16State → RunAnswer Utf16State
 utf16_answer (number, offset) stop count g = record { refusal = number; offset = offset; stop = stop; count = count; state = g }
 
 -- as many items as the first run writes from the nine numbers, with these positions; all else is the first run's

@@ -1,5 +1,8 @@
 // The numbers of the kinds that the code names. The definition numbers all kinds (specs/Kinds.antt), and every contract in which one
 // of these stands compares it with the definition's.
+// They are numbers and no enum, since the definition's `Item` holds a kind's number, the place of the source's name in one list (`kind`,
+// document 01), and nearly all kinds run along with the places of the tables (`kind_at` of crate `table_entries`): an enum would name
+// 173 kinds once more, and each would be turned into its number wherever an item is made.
 pub const AND: u32 = 3;
 
 pub const EXISTS: u32 = 17;

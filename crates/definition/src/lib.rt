@@ -3,7 +3,8 @@
 // definition computes document 01's cases. Assumed: nothing but what each method's `requires` says.
 #![tactic(auto)]
 
-pub mod errors; // errors.rt: the errors' numbers by name
+pub mod answers; // answers.rt: refusals, stops, and what a run gives
+pub mod errors; // errors.rt: the errors, and their numbers
 pub mod kinds; // kinds.rt: the numbers of kinds by name
 
 ghost use Rattle.std.specs.Prelude.{◌≡◌, ◌<◌, ◌≤◌};
@@ -21,29 +22,9 @@ pub enum Sequence {
     End,
 }
 
-// The source's `get`, `byte` and `next` give -1 past the end; here the end is an answer of its own. (`Letter` is `get`'s, which only the
-// definition has: the code reads a character with its width, `Sequence`.)
-#[derive(Clone, Copy)]
-pub enum Letter {
-    Code(u32),
-    Past,
-}
-
-#[derive(Clone, Copy)]
-pub enum Octet {
-    Byte(u8),
-    Past,
-}
-
-// The end of what a matcher found, or that it found nothing (-1 in the source).
-#[derive(Clone, Copy)]
-pub enum Match {
-    To(usize),
-    Nothing,
-}
-
 // What `select` chose at an offset: one of its 50 places, or 0 for none; the end of the part; and, where the place
-// is a table, which of its words (else 0).
+// is a table, which of its words (else 0). A place is a number, since it is one in the definition: that of a row of its list
+// `places`, whose order decides ties.
 #[derive(Clone, Copy)]
 pub struct Choice {
     pub place: u32,
@@ -52,7 +33,7 @@ pub struct Choice {
 }
 
 // A line and a column.
-#[derive(Clone, Copy)]
+#[derive(Clone, Copy, Default)]
 pub struct Pos {
     pub line: u32,
     pub col: u32,
@@ -60,8 +41,8 @@ pub struct Pos {
 
 // The saved state: document 01's nine numbers, in its order. `bol` and `column` are the line-start offset and column
 // (the source's `bol` and `bol_col`), `comment` is the comment start. The mode is 0 between items, 1 in a comment,
-// 2 ended.
-#[derive(Clone, Copy)]
+// 2 ended: a number, since any nine numbers may be handed in, and a mode that is none of the three is refused with 9.
+#[derive(Clone, Copy, Default)]
 pub struct State {
     pub offset: u32,
     pub line: u32,
@@ -88,7 +69,7 @@ impl State {
             comments: self.comments,
             mode: self.mode,
             depth: self.depth,
-            comment: comment,
+            comment,
         }
     }
 
@@ -199,46 +180,11 @@ pub struct Item {
     pub to: u32,
 }
 
-// Start's answer: a refusal number with a state of nine zeros, or 0 with the state.
-#[derive(Clone, Copy)]
-pub struct StartAnswer {
-    pub refusal: u32,
-    pub state: State,
-}
-
-// Run's answer: a refusal number (and for refusal 8 the offset of the first byte where no legal sequence starts)
-// with the state given, or 0 with the stop, the count of whole items and the state after them.
-#[derive(Clone, Copy)]
-pub struct RunAnswer {
-    pub refusal: u32,
-    pub offset: u32,
-    pub stop: u32,
-    pub count: u32,
-    pub state: State,
-}
-
 // The second run's saved state (document 02, K2): document 01's nine numbers, whose columns count characters, and then the second columns,
 // in UTF-16 units, of the line start and of the comment start.
-#[derive(Clone, Copy)]
+#[derive(Clone, Copy, Default)]
 pub struct Utf16State {
     pub first: State,
     pub column: u32,
     pub comment: u32,
-}
-
-// Its start's answer: a refusal number with a state of eleven zeros, or 0 with the state.
-#[derive(Clone, Copy)]
-pub struct Utf16StartAnswer {
-    pub refusal: u32,
-    pub state: Utf16State,
-}
-
-// Its run's answer, as the first run's.
-#[derive(Clone, Copy)]
-pub struct Utf16RunAnswer {
-    pub refusal: u32,
-    pub offset: u32,
-    pub stop: u32,
-    pub count: u32,
-    pub state: Utf16State,
 }

@@ -1,13 +1,13 @@
 -- A run of either kind, from a saved state that says which.
 -- s is the text, name the file's name, f the class file; rs and ps are the buffers as they were lent.
 use Rattle.std.specs.Prelude.{ℕ, List, length}
+use Rattle.definition.specs.Answers.{RunAnswer}
 use Rattle.definition.specs.Basics.{Bytes}
 use Rattle.definition.specs.Item.{Step}
 use Rattle.definition.specs.Items.{steps_of}
 use Rattle.definition.specs.Run.{Outcome, refusal, run}
 use Rattle.definition.specs.Utf16.{utf16, second_steps, utf16_refusal, Utf16Outcome, utf16_run}
 use Rattle.definition.specs.declared.State.{State}
-use Rattle.either_run.specs.declared.Answer.{Answer}
 use Rattle.either_run.specs.declared.Saved.{Saved}
 use Rattle.either_run.specs.declared.Saved.TheVariants.{Characters, Utf16}
 
@@ -18,7 +18,7 @@ first_of (Utf16 g) = g.first
 
 -- the answer, and both buffers
 abbrev pub EitherOutcome : Type 0
-EitherOutcome = Answer × List ℕ × Bytes
+EitherOutcome = RunAnswer Saved × List ℕ × Bytes
 
 abbrev pub of_first : Outcome → EitherOutcome
 of_first o =

@@ -6,8 +6,10 @@
 #![tactic(auto)]
 
 ghost use Rattle.std.specs.Prelude.{◌≡◌};
+ghost use Rattle.definition.specs.Answers.{run_said};
 ghost use Rattle.either_run.specs.Either.{either_run};
 
+use definition::answers::{Ran, RunRefusal};
 use definition::{State, Utf16State};
 
 // The saved state of a run whose positions count characters, or UTF-16 units.
@@ -15,16 +17,6 @@ use definition::{State, Utf16State};
 pub enum Saved {
     Characters(State),
     Utf16(Utf16State),
-}
-
-// A run's answer.
-#[derive(Clone, Copy)]
-pub struct Answer {
-    pub refusal: u32,
-    pub offset: u32,
-    pub stop: u32,
-    pub count: u32,
-    pub state: Saved,
 }
 
 // A text's items from a saved state on, written into the lent buffers as far as they have room, or a refusal.
@@ -35,31 +27,25 @@ pub fn run(
     from: Saved,
     records: &mut [u32],
     payload: &mut [u8],
-) -> Answer
-    ensures { (result, records.new, payload.new) ≡ either_run text.now name.now classes.now from records.old payload.old }
+) -> Result<Ran<Saved>, RunRefusal>
+    ensures { (run_said from result, records.new, payload.new) ≡ either_run text.now name.now classes.now from records.old payload.old }
 {
     match from {
         Saved::Characters(state) => {
-            let answer = lexer::run(text, name, classes, state, records, payload);
-            let next = answer.state;
-            Answer {
-                refusal: answer.refusal,
-                offset: answer.offset,
-                stop: answer.stop,
-                count: answer.count,
-                state: Saved::Characters(next),
-            }
+            let ran = lexer::run(text, name, classes, state, records, payload)?;
+            Ok(Ran {
+                stop: ran.stop,
+                count: ran.count,
+                state: Saved::Characters(ran.state),
+            })
         }
         Saved::Utf16(state) => {
-            let answer = lexer::utf16::run(text, name, classes, state, records, payload);
-            let next = answer.state;
-            Answer {
-                refusal: answer.refusal,
-                offset: answer.offset,
-                stop: answer.stop,
-                count: answer.count,
-                state: Saved::Utf16(next),
-            }
+            let ran = lexer::utf16::run(text, name, classes, state, records, payload)?;
+            Ok(Ran {
+                stop: ran.stop,
+                count: ran.count,
+                state: Saved::Utf16(ran.state),
+            })
         }
     }
 }

@@ -1,4 +1,5 @@
 -- A token that was written is the definition's turn of a run. Rests on the laws of spans, of short payloads and of a run's turn.
+use Rattle.std.specs.Prelude.{Some}
 use Prim.Native.Nat.{ℕ, ◌*◌}
 use mathlib.Core.Path.{◌≡◌, refl, sym, subst}
 use mathlib.Core.List.{List}
@@ -25,7 +26,7 @@ use Rattle.run_turn.specs.declared.TurnResult.TheVariants.{Wrote}
 use Rattle.run_turn.specs.Running.{writing, Ran}
 use Rattle.run_turn.proofs.TurnLaws.{wrote_ran}
 use Rattle.fast_path.specs.Puts.{Written, Puts}
-use Rattle.fast_path.specs.declared.puts.PutResult.TheVariants as put_variants
+use Rattle.fast_path.specs.declared.puts.TokenPut.{TokenPut}
 
 module _ (s name f : Bytes) (at here : Cursor) (count used : ℕ) (rs : List ℕ) (ps : Bytes) (awake : at.st.mode ≡ 2 → ⊥) (e : ℕ) where
   token_ran : {k i to : ℕ} {p : Payload} {next : Cursor} {used' : ℕ} {known : AsciiRun} {rs' : List ℕ} {ps' : Bytes}
@@ -48,10 +49,10 @@ module _ (s name f : Bytes) (at here : Cursor) (count used : ℕ) (rs : List ℕ
       rw (w.after, w.spent) (wrote_ran s name f at count used rs ps awake w.record_room r reads size long rs' ps' w.payload_room w.records (w.payload name f))
 
   -- an action that was written was a token
-  pub action_ran : (x : Action) (next : Cursor) (used' : ℕ) (known : AsciiRun) (rs' : List ℕ) (ps' : Bytes)
+  pub action_ran : (x : Action) (t : TokenPut) (rs' : List ℕ) (ps' : Bytes)
       → action_step s name f here.st e x ≡ step s name f at.st → Fits s name here x
-      → Puts s here x (record_size * count) used rs ps (put_variants.Token next used' known) rs' ps'
-      → Ran s (run_turn s name f (writing at count used rs ps)) count at.st (Wrote next used') rs' ps'
-  action_ran (Token k i to p) next used' known rs' ps' q fits w = token_ran q fits w
-  action_ran (Error n p) next used' known rs' ps' q fits w = absurd w
-  action_ran LineComment next used' known rs' ps' q fits w = absurd w
+      → Puts s here x (record_size * count) used rs ps (Some t) rs' ps'
+      → Ran s (run_turn s name f (writing at count used rs ps)) count at.st (Wrote t.next t.used) rs' ps'
+  action_ran (Token k i to p) t rs' ps' q fits w = token_ran q fits w
+  action_ran (Error n p) t rs' ps' q fits w = absurd w
+  action_ran LineComment t rs' ps' q fits w = absurd w

@@ -1,5 +1,6 @@
 -- What writing a token asks for holds where its action can be carried out, and what was written is the token. Rests on the laws of
 -- where a reader stands and of short payloads.
+use Rattle.std.specs.Prelude.{Some}
 use Prim.Native.Nat.{ℕ, ◌+◌, ◌-◌, ◌≤◌, ◌<◌}
 use mathlib.Core.Path.{◌≡◌, refl}
 use mathlib.Core.List.{List, []}
@@ -12,7 +13,6 @@ use Rattle.definition.specs.Item.{record_size, words}
 use Rattle.definition.specs.Token.{TokenTurn}
 use Rattle.definition.specs.Run.{put}
 use Rattle.definition.specs.declared.State.{State}
-use Rattle.definition.specs.declared.Match.TheVariants.{To}
 use Rattle.laws_run.proofs.Moving.{stands_within}
 use Rattle.position.specs.Columns.{Asked, column_at}
 use Rattle.position.specs.AsciiRuns.{Plain}
@@ -56,7 +56,7 @@ module _ {s : Bytes} {here : Cursor} {i e : ℕ} {p : Payload} {first used : ℕ
   end_small = let w : e ≤ length s = stands_within h.spans.next in omega (arith, h.spans.next.short)
 
   -- what fits fits
-  pub pair_fits : {size : ℕ} → short_length p ≡ To size → record_size ≤ length rs - first → size ≤ length ps - used → PairFits s p size first used rs ps
+  pub pair_fits : {size : ℕ} → short_length p ≡ Some size → record_size ≤ length rs - first → size ≤ length ps - used → PairFits s p size first used rs ps
   pair_fits {size} q room fits =
       let n = short_long [] p size q in
       record {
@@ -75,7 +75,7 @@ module _ {s : Bytes} {here : Cursor} {i e : ℕ} {p : Payload} {first used : ℕ
 -- what was written is the token
 pub token_written : {s : Bytes} {here : Cursor} {i e : ℕ} {p : Payload} {first used size : ℕ} {rs : List ℕ} {ps : Bytes} (k : ℕ) (cols : Columns) (next : State)
     (known : AsciiRun) (rs' : List ℕ) (ps' : Bytes)
-    → short_length p ≡ To size → record_size ≤ length rs - first → size ≤ length ps - used
+    → short_length p ≡ Some size → record_size ≤ length rs - first → size ≤ length ps - used
     → (cols.start ≡ (column_at one_each s here.st i).col) × (cols.end ≡ (column_at one_each s here.st e).col) → next ≡ advance here.st e
     → (rs' ≡ put rs first (words (plain_item k (record { line = here.st.line; col = cols.start }) (record { line = here.st.line; col = cols.end }) size here.st.comments here.st.offset e) used))
     × ((name f : Bytes) → ps' ≡ put ps used (bytes_of s name f p))

@@ -1,5 +1,6 @@
 -- A run's tokens, one after the other: what holds between two of them, and what stands ahead after the last. Rests on the laws of
 -- actions, of tokens that were written and of a run that goes on.
+use Rattle.std.specs.Prelude.{Some}
 use Prim.Native.Nat.{ℕ, ◌+◌, ◌-◌, ◌*◌, ◌≤◌, ◌<◌}
 use mathlib.Core.Path.{◌≡◌, refl, ◌∙◌, ap}
 use mathlib.Core.Bool.{Bool}
@@ -29,7 +30,7 @@ use Rattle.run_turn.specs.Running.{writing, Ran, Between}
 use Rattle.run_turn.proofs.AheadLaws.{Gives, ahead_inside, ahead_reader, ahead_action, action_is_step}
 use Rattle.run_turn.proofs.RunLaws.{between_any, between_on, ran_same}
 use Rattle.fast_path.specs.Puts.{Writes, Puts}
-use Rattle.fast_path.specs.declared.puts.PutResult.TheVariants as put_variants
+use Rattle.fast_path.specs.declared.puts.TokenPut.{TokenPut}
 use Rattle.fast_path.specs.TokensWritten.{WritesTokens}
 use Rattle.fast_path.specs.declared.TokensWritten.{TokensWritten}
 use Rattle.fast_path.proofs.RanLaws.{action_ran}
@@ -39,20 +40,20 @@ use Rattle.fast_path.proofs.RanLaws.{action_ran}
 module _ {s f : Bytes} {at here : Cursor} {c : Choice} {rule : ActionRule} (m : at.st.mode ≡ 0) (h : SeesRule s f at here c (rules.Action rule))
     (accepted : class_check f ≡ 0) {x : Action} (gives : Gives s here c rule x) where
   -- it is a turn of the run
-  pub action_turn : (count used : ℕ) (rs : List ℕ) (ps : Bytes) (next : Cursor) (used' : ℕ) (known : AsciiRun) (rs' : List ℕ) (ps' : Bytes)
-      → Puts s here x (record_size * count) used rs ps (put_variants.Token next used' known) rs' ps' → (name : Bytes) → length name ≤ 4096
-      → Ran s (run_turn s name f (writing at count used rs ps)) count at.st (Wrote next used') rs' ps'
-  action_turn count used rs ps next used' known rs' ps' w name named =
-      action_ran s name f at here count used rs ps (λ e. absurd (omega (arith, m, e))) c.end x next used' known rs' ps' (action_is_step m h accepted gives name named)
+  pub action_turn : (count used : ℕ) (rs : List ℕ) (ps : Bytes) (t : TokenPut) (rs' : List ℕ) (ps' : Bytes)
+      → Puts s here x (record_size * count) used rs ps (Some t) rs' ps' → (name : Bytes) → length name ≤ 4096
+      → Ran s (run_turn s name f (writing at count used rs ps)) count at.st (Wrote t.next t.used) rs' ps'
+  action_turn count used rs ps t rs' ps' w name named =
+      action_ran s name f at here count used rs ps (λ e. absurd (omega (arith, m, e))) c.end x t rs' ps' (action_is_step m h accepted gives name named)
       (gives name named).fits w
 
 -- after it reading goes on between comments, with a run of ASCII, and there was room for its record
-pub put_stays : (s : Bytes) (here : Cursor) (x : Action) (first used : ℕ) (rs : List ℕ) (ps : Bytes) (next : Cursor) (used' : ℕ) (known : AsciiRun) (rs' : List ℕ)
-    (ps' : Bytes) → here.st.mode ≡ 0 → Puts s here x first used rs ps (put_variants.Token next used' known) rs' ps'
-    → (next.st.mode ≡ 0) × Plain s known × (record_size ≤ length rs - first)
-put_stays s here (Token k i e p) first used rs ps next used' known rs' ps' m w = (rw w.after m, w.plain, w.record_room)
-put_stays s here (Error n p) first used rs ps next used' known rs' ps' m w = absurd w
-put_stays s here LineComment first used rs ps next used' known rs' ps' m w = absurd w
+pub put_stays : (s : Bytes) (here : Cursor) (x : Action) (first used : ℕ) (rs : List ℕ) (ps : Bytes) (t : TokenPut) (rs' : List ℕ)
+    (ps' : Bytes) → here.st.mode ≡ 0 → Puts s here x first used rs ps (Some t) rs' ps'
+    → (t.next.st.mode ≡ 0) × Plain s t.plain × (record_size ≤ length rs - first)
+put_stays s here (Token k i e p) first used rs ps t rs' ps' m w = (rw w.after m, w.plain, w.record_room)
+put_stays s here (Error n p) first used rs ps t rs' ps' m w = absurd w
+put_stays s here LineComment first used rs ps t rs' ps' m w = absurd w
 
 -- ---- the loop
 
@@ -128,12 +129,12 @@ module _ {s f : Bytes} {start : Cursor} {begun filled : ℕ} {rs₀ : List ℕ} 
     })
 
     -- an action that was written is passed
-    pub token_passed : (next : Cursor) (used' : ℕ) (known : AsciiRun) (rs' : List ℕ) (ps' : Bytes)
-        → Puts s here x (record_size * count) used rs ps (put_variants.Token next used' known) rs' ps'
-        → WritingTokens s f start begun filled rs₀ ps₀ next (count + 1) used' known rs' ps' × (left s next.st < left s at.st)
-    token_passed next used' known rs' ps' w =
-        tokens_on (action_turn k.mode h k.between.accepted gives count used rs ps next used' known rs' ps' w)
-        (put_stays s here x (record_size * count) used rs ps next used' known rs' ps' h.faces.between w)
+    pub token_passed : (t : TokenPut) (rs' : List ℕ) (ps' : Bytes)
+        → Puts s here x (record_size * count) used rs ps (Some t) rs' ps'
+        → WritingTokens s f start begun filled rs₀ ps₀ t.next (count + 1) t.used t.plain rs' ps' × (left s t.next.st < left s at.st)
+    token_passed t rs' ps' w =
+        tokens_on (action_turn k.mode h k.between.accepted gives count used rs ps t rs' ps' w)
+        (put_stays s here x (record_size * count) used rs ps t rs' ps' h.faces.between w)
 
 -- in a comment, or where the reading has ended, nothing is passed
 pub no_tokens : {s f : Bytes} {start : Cursor} {begun filled : ℕ} {rs : List ℕ} {ps : Bytes} {b : TokensWritten} → Between s [] f start begun filled rs ps

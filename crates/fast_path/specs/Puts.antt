@@ -1,12 +1,11 @@
 -- What writing a token asks for and does. s is the text, here the cursor of the reader after white space; rs and ps are the
 -- buffers before, rs' and ps' those after.
-use Rattle.std.specs.Prelude.{ℕ, ◌+◌, ◌-◌, ◌≤◌, ◌<◌, ◌≡◌, List, [], length}
+use Rattle.std.specs.Prelude.{ℕ, ◌+◌, ◌-◌, ◌≤◌, ◌<◌, ◌≡◌, List, [], length, Option, Some, None}
 use Rattle.definition.specs.Basics.{Bytes}
 use Rattle.definition.specs.Position.{one_each, pos_of}
 use Rattle.definition.specs.State.{advance}
 use Rattle.definition.specs.Item.{record_size, words}
 use Rattle.definition.specs.Run.{put}
-use Rattle.definition.specs.declared.Match.TheVariants.{To}
 use Rattle.position.specs.Columns.{column_at}
 use Rattle.position.specs.AsciiRuns.{Plain}
 use Rattle.position.specs.declared.columns.AsciiRun.{AsciiRun}
@@ -17,12 +16,11 @@ use Rattle.record.specs.Numbers.{plain_item}
 use Rattle.reader.specs.Actions.{Spans}
 use Rattle.reader.specs.declared.actions.Action.{Action}
 use Rattle.reader.specs.declared.actions.Action.TheVariants.{Token, Error, LineComment}
-use Rattle.fast_path.specs.declared.puts.PutResult.{PutResult}
-use Rattle.fast_path.specs.declared.puts.PutResult.TheVariants as put_variants
+use Rattle.fast_path.specs.declared.puts.TokenPut.{TokenPut}
 
 -- a token's record and its short payload of `size` bytes fit after what is written
 pub record PairFits (s : Bytes) (p : Payload) (size first used : ℕ) (rs : List ℕ) (ps : Bytes) : Type 0 where
-  pub short : short_length p ≡ To size
+  pub short : short_length p ≡ Some size
   pub inside : Inside s p
   pub begun : first ≤ length rs
   pub record_room : record_size ≤ length rs - first
@@ -54,7 +52,7 @@ ActionAsks s here LineComment first used plain rs ps = Unit {0}
 pub record Written (s : Bytes) (here : Cursor) (k i e : ℕ) (p : Payload) (first used : ℕ) (rs : List ℕ) (ps : Bytes) (next : Cursor) (used' : ℕ)
     (known : AsciiRun) (rs' : List ℕ) (ps' : Bytes) : Type 0 where
   pub size : ℕ
-  pub short : short_length p ≡ To size
+  pub short : short_length p ≡ Some size
   pub record_room : record_size ≤ length rs - first
   pub payload_room : size ≤ length ps - used
   pub after : next ≡ record { st = advance here.st e; known = column_at one_each s here.st e }
@@ -64,8 +62,8 @@ pub record Written (s : Bytes) (here : Cursor) (k i e : ℕ) (p : Payload) (firs
   pub plain : Plain s known
 
 -- what became of an action: where it was left both buffers are what they were
-abbrev pub Puts : Bytes → Cursor → Action → ℕ → ℕ → List ℕ → Bytes → PutResult → List ℕ → Bytes → Type 0
-Puts s here x first used rs ps put_variants.Left rs' ps' = (rs' ≡ rs) × (ps' ≡ ps)
-Puts s here (Token k i e p) first used rs ps (put_variants.Token next used' plain) rs' ps' = Written s here k i e p first used rs ps next used' plain rs' ps'
-Puts s here (Error n p) first used rs ps (put_variants.Token next used' plain) rs' ps' = ⊥
-Puts s here LineComment first used rs ps (put_variants.Token next used' plain) rs' ps' = ⊥
+abbrev pub Puts : Bytes → Cursor → Action → ℕ → ℕ → List ℕ → Bytes → Option TokenPut → List ℕ → Bytes → Type 0
+Puts s here x first used rs ps None rs' ps' = (rs' ≡ rs) × (ps' ≡ ps)
+Puts s here (Token k i e p) first used rs ps (Some t) rs' ps' = Written s here k i e p first used rs ps t.next t.used t.plain rs' ps'
+Puts s here (Error n p) first used rs ps (Some t) rs' ps' = ⊥
+Puts s here LineComment first used rs ps (Some t) rs' ps' = ⊥

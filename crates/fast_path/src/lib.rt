@@ -16,7 +16,7 @@ ghost use Rattle.select.specs.Standing.{Lent};
 ghost use Rattle.run_turn.specs.Running.{Between};
 ghost use Rattle.fast_path.specs.TokensWritten.{WritesTokens};
 
-use crate::puts::{PutResult, put_action};
+use crate::puts::put_action;
 use definition::RECORD;
 use lookahead::{Lookahead, NextItem, look};
 use position::columns::AsciiRun;
@@ -67,35 +67,31 @@ pub fn write_tokens(
         match look(text, classes, ops, symbols, at) {
             Lookahead::Reader { here, choice, rule } => {
                 return TokensWritten {
-                    at: at,
-                    here: here,
+                    at,
+                    here,
                     ahead: NextItem::ByReader { choice, rule },
-                    count: count,
-                    used: used,
+                    count,
+                    used,
                 };
             }
             Lookahead::Action { here, choice, rule } => {
                 let action = ruled(text, here, choice, rule);
                 let first = RECORD * count;
                 match put_action(text, here, action, first, used, plain, records, bytes) {
-                    PutResult::Left => {
+                    None => {
                         let end = choice.end;
                         return TokensWritten {
-                            at: at,
-                            here: here,
+                            at,
+                            here,
                             ahead: NextItem::ByAction { end, action },
-                            count: count,
-                            used: used,
+                            count,
+                            used,
                         };
                     }
-                    PutResult::Token {
-                        next,
-                        used: more,
-                        plain: ascii,
-                    } => {
-                        at = next;
-                        used = more;
-                        plain = ascii;
+                    Some(token) => {
+                        at = token.next;
+                        used = token.used;
+                        plain = token.plain;
                         count += 1;
                     }
                 }

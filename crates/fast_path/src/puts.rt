@@ -13,7 +13,7 @@ ghost use Rattle.record.specs.Numbers.{plain_item};
 ghost use Rattle.reader.specs.declared.actions.Action.TheVariants.{Token};
 ghost use Rattle.fast_path.specs.Puts.{PairFits, TokenAsks, ActionAsks, Puts};
 
-use definition::{Match, Pos, RECORD};
+use definition::{Pos, RECORD};
 use payload_write::write_short;
 use position::Cache;
 use position::ascii_runs::{ascii_run, columns};
@@ -25,16 +25,13 @@ use record::write_token;
 // How many numbers have to be free for one more record.
 const NEEDED: usize = RECORD;
 
-// What became of an action: it was left, or it was a token and is written, after which reading goes on with so many payload
-// bytes used and with a part of the text that is known to be ASCII.
+// A token that is written: reading goes on at `next`, with so many payload bytes used and with a part of the text that is known to
+// be ASCII.
 #[derive(Clone, Copy)]
-pub enum PutResult {
-    Left,
-    Token {
-        next: Cursor,
-        used: usize,
-        plain: AsciiRun,
-    },
+pub struct TokenPut {
+    pub next: Cursor,
+    pub used: usize,
+    pub plain: AsciiRun,
 }
 
 // Writes a token's payload from byte `used` on, and its record from number `first` on.
@@ -84,18 +81,16 @@ fn put_token(
     plain: AsciiRun,
     records: &mut [u32],
     bytes: &mut [u8],
-) -> PutResult
+) -> Option<TokenPut>
     requires { TokenAsks text.now here start to payload first used plain records.old bytes.old }
     ensures { Puts text.now here (Token kind start to payload) first used records.old bytes.old result records.new bytes.new }
 {
     if records.len() - first < NEEDED {
-        return PutResult::Left;
+        return None;
     }
-    let Match::To(size) = short_length(payload) else {
-        return PutResult::Left;
-    };
+    let size = short_length(payload)?;
     if bytes.len() - used < size {
-        return PutResult::Left;
+        return None;
     }
     let st = here.st;
     let known = here.known;
@@ -129,14 +124,14 @@ fn put_token(
         off: end,
         col: cols.end,
     };
-    PutResult::Token {
+    Some(TokenPut {
         next: Cursor {
             st: st.advance(end),
             known: after,
         },
         used: used + size,
         plain: ascii,
-    }
+    })
 }
 
 // Writes what an action says, if it says a token and that fits.
@@ -149,7 +144,7 @@ pub fn put_action(
     plain: AsciiRun,
     records: &mut [u32],
     bytes: &mut [u8],
-) -> PutResult
+) -> Option<TokenPut>
     requires { ActionAsks text.now here action first used plain records.old bytes.old }
     ensures { Puts text.now here action first used records.old bytes.old result records.new bytes.new }
 {
@@ -160,7 +155,7 @@ pub fn put_action(
         payload,
     } = action
     else {
-        return PutResult::Left;
+        return None;
     };
     put_token(
         text, here, kind, start, to, payload, first, used, plain, records, bytes,

@@ -5,56 +5,39 @@
 // Assumed: nothing. What the system gives to read no contract says; a read that fails is an error, and never the end.
 #![tactic(auto)]
 
-ghost use Rattle.std.specs.Prelude.{◌≡◌, ℕ, min, ◌*◌, ◌<◌, List, length, take, Option, Ok, IfOk, OnErr};
+ghost use Rattle.std.specs.Prelude.{◌≡◌, ℕ, min, ◌<◌, List, length, take, Option, Ok, IfOk, OnErr};
 ghost use Rattle.std.specs.Io.{ReadsAtMost};
 ghost use Rattle.std.specs.Io.KnownBytes.{Consumes, IsAtEnd};
-ghost use Rattle.definition.specs.Item.{record_size};
 
 use definition::RECORD;
 use std::fs::Files;
 use std::io::Read;
 use std::{fs, io};
 
-// For a text.
-pub fn text_buffer() -> [u8; 1048577]
-    ensures { 1048577 ≡ length result }
-{
-    [0; 1048577]
-}
+// The bytes of a text.
+pub const TEXT: usize = 1048577;
 
-// For a text of which no more than 60,000 bytes are taken.
-pub fn short_text_buffer() -> [u8; 65536]
-    ensures { 65536 ≡ length result }
-{
-    [0; 65536]
-}
+// The bytes of a text of which no more than 60,000 are taken.
+pub const SHORT_TEXT: usize = 65536;
 
-// For a class file.
-pub fn class_buffer() -> [u8; 65537]
-    ensures { 65537 ≡ length result }
-{
-    [0; 65537]
-}
+// The bytes of a class file.
+pub const CLASSES: usize = 65537;
 
-// For a file's name, a text and a class file one after the other.
-pub fn parts_buffer() -> [u8; 1118211]
-    ensures { 1118211 ≡ length result }
-{
-    [0; 1118211]
-}
+// The bytes of a file's name, a text and a class file one after the other.
+pub const PARTS: usize = 1118211;
 
-// The records of 65,536 items.
-pub fn record_buffer() -> [u32; 65536 * RECORD]
-    ensures { 65536 * record_size ≡ length result }
-{
-    [0; 65536 * RECORD]
-}
+// The numbers of the records of 65,536 items.
+pub const RECORDS: usize = 65536 * RECORD;
 
-// More than the longest payload, which a text has that is one comment that is never closed.
-pub fn payload_buffer() -> [u8; 1052672]
-    ensures { 1052672 ≡ length result }
+// More bytes than the longest payload has, that of a text that is one comment that is never closed.
+pub const PAYLOAD: usize = 1052672;
+
+// A buffer of N elements, each of which is `fill`. A large array is made in a function of its own: written where it is used, its
+// length would be computed, and take the checker's stack.
+pub fn buffer<T: Copy, const N: usize>(fill: T) -> [T; N]
+    ensures { N ≡ length result }
 {
-    [0; 1052672]
+    [fill; N]
 }
 
 // Reads until the buffer is full or the input ends, and answers how many bytes came. The only error is the reader's own; the
@@ -99,12 +82,9 @@ pub fn read_classes<R: Files>(rt: &R, file: &mut [u8]) -> io::Result<usize>
     read_opened(fs::open(rt, "classes.bin"), file)
 }
 
-// The lesser of two numbers.
+// The lesser of two numbers: a public function, which stays, by the library's `min`.
 pub fn least(a: usize, b: usize) -> usize
     ensures { result ≡ min a b }
 {
-    if a < b {
-        return a;
-    }
-    b
+    a.min(b)
 }

@@ -1,11 +1,11 @@
 -- What is skipped: `next_token` calls itself after a choice of place 7, 8 or 29 alone, and reading goes on where that choice ends. Rests on
 -- the rules of the places, looked at one by one, and on there being fifty (crate `laws_longest`).
+use Rattle.std.specs.Prelude.{Option, Some, None}
 use Prim.Native.Nat.{ℕ, zero, suc, ◌+◌, ◌≤◌}
 use Prim.Native.String.{String}
 use mathlib.Core.Path.{◌≡◌, refl, sym, subst}
 use mathlib.Core.List.{List, ◌∷◌}
 use mathlib.Core.Logic.{inl, inr}
-use mathlib.Core.Option.{Option, none, some}
 use native.Mathlib.Omega.{arith}
 use lib.Dec.{ltb, eqb}
 use lib.ListN.{length, get_or}
@@ -45,9 +45,9 @@ module _ (s name f : Bytes) (st : State) (e w : ℕ) where
   word_turn : (k : ℕ) (table : List Entry) (d : String) → IfSkips k e (finish_word s st e table d)
   word_turn k table d = go (find (lexeme s st.offset e) table)
     where
-      go : (x : Option Entry) → IfSkips k e (elim x [ some y ↦ finish_entry s st e y | none ↦ finish s st e (kind d) (lexeme s st.offset e) ])
-      go (some y) = tt
-      go none = tt
+      go : (x : Option Entry) → IfSkips k e (elim x [ Some y ↦ finish_entry s st e y | None ↦ finish s st e (kind d) (lexeme s st.offset e) ])
+      go (Some y) = tt
+      go None = tt
 
   ident_turn : (k : ℕ) → IfSkips k e (ident s st e)
   ident_turn k = by_test (IfSkips k e) (starts_with (lexeme s st.offset e) reserved_prefix) (λ _. tt) (λ _. word_turn k _ _)

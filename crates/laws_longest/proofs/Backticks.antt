@@ -1,5 +1,6 @@
 -- A name in backticks: the loop that reads it finds the one end of its pattern. Each turn is decided by the characters that stand there:
 -- one that the name may have, one after a backtick, or neither. Rests on the shapes and on the laws of loops.
+use Rattle.std.specs.Prelude.{Option, Some, None}
 use Prim.Native.Nat.{ℕ, ◌+◌, ◌-◌, ◌≤◌, ◌<◌}
 use mathlib.Core.Path.{◌≡◌, refl, sym, subst, ◌∙◌}
 use mathlib.Core.Bool.{Bool, true, not, ◌&&◌}
@@ -14,8 +15,6 @@ use Rattle.definition.specs.Chars.{is_newline_char}
 use Rattle.definition.specs.Matchers.{only, one, backtick_turn, match_backtick_ident}
 use Rattle.definition.specs.Regex.{Re, seq, alt, at_least_one}
 use Rattle.definition.specs.Patterns.{text, backtick_free}
-use Rattle.definition.specs.declared.Match.{Match}
-use Rattle.definition.specs.declared.Match.TheVariants.{To, Nothing}
 use Rattle.lemmas.proofs.Cases.{by_match}
 use Rattle.lemmas.proofs.Loops.{Leads, Falls, loop_gives}
 use Rattle.laws_progress.proofs.Matches.{small_is}
@@ -61,9 +60,9 @@ module _ (s : Bytes) where
   after_right j = right_letter s (ch "`") (omega arith) j (j + 1) refl (λ _. one_right s ok (j + 1))
 
   -- Two backticks are found by their tests.
-  ticks_right : (j : ℕ) → Right (At s (text "``") j) (only (byte_is (ch "`") s j && byte_is (ch "`") s (j + 1)) (To (j + 2)))
+  ticks_right : (j : ℕ) → Right (At s (text "``") j) (only (byte_is (ch "`") s j && byte_is (ch "`") s (j + 1)) (Some (j + 2)))
   ticks_right j =
-      right_both (To (j + 2)) (byte_is (ch "`") s j) (byte_is (ch "`") s (j + 1))
+      right_both (Some (j + 2)) (byte_is (ch "`") s j) (byte_is (ch "`") s (j + 1))
       (right_byte s (small_is (ch "`") (omega arith)) j (j + 1) refl λ _.
       right_byte s (small_is (ch "`") (omega arith)) (j + 1) (j + 2) (omega arith) λ _. right_here s)
 
@@ -83,9 +82,9 @@ module _ (s : Bytes) where
   read_back j n k a e (m, c, h, t) = (m, step k a c, inr (omega (arith, at_ahead s item j k refl a, chain_forward s (at_forward s item) c)), t)
 
   -- Where no item stands only the backticks are left.
-  none_left : (j n : ℕ) → ((k : ℕ) → At s item j k → ⊥) → Right (Left (j, n)) (only (ltb 0 n && (byte_is (ch "`") s j && byte_is (ch "`") s (j + 1))) (To (j + 2)))
+  none_left : (j n : ℕ) → ((k : ℕ) → At s item j k → ⊥) → Right (Left (j, n)) (only (ltb 0 n && (byte_is (ch "`") s j && byte_is (ch "`") s (j + 1))) (Some (j + 2)))
   none_left j n no_item =
-      right_both (To (j + 2)) (ltb 0 n) (byte_is (ch "`") s j && byte_is (ch "`") s (j + 1))
+      right_both (Some (j + 2)) (ltb 0 n) (byte_is (ch "`") s j && byte_is (ch "`") s (j + 1))
       (right_only (ltb 0 n) (λ e h. lt-ltb 0 n (at_least e h)) (λ t. right_map (λ e h. (j, stop refl, inl (ltb-true 0 n t), h)) ticks (ticks_right j)))
     where
       here : (m : ℕ) → Chain (At s item) j m → j ≡ m
@@ -120,18 +119,18 @@ module _ (s : Bytes) where
       where
         go : (j n : ℕ) → Kept (j, n) → Leads (λ b. Kept b × (length s - b.0 < length s - j)) (Right (Left start)) (backtick_turn s (j, n))
         go j n h =
-            let L : Turn (ℕ × ℕ) Match → Type 0 = Leads (λ b. Kept b × (length s - b.0 < length s - j)) (Right (Left start)) in
+            let L : Turn (ℕ × ℕ) (Option ℕ) → Type 0 = Leads (λ b. Kept b × (length s - b.0 < length s - j)) (Right (Left start)) in
             by_match L (one ok s j) (λ k q. turn_on j n k h (inl ((one_right s ok j).fits k q))) λ first.
             by_match L (only (byte_is (ch "`") s j) (one ok s (j + 1))) (λ k q. turn_on j n k h (inr ((after_right j).fits k q))) λ second.
             right_map h.from h.to (none_left j n (no_item j first second))
           where
-            no_item : (j : ℕ) → one ok s j ≡ Nothing → only (byte_is (ch "`") s j) (one ok s (j + 1)) ≡ Nothing → (k : ℕ) → At s item j k → ⊥
+            no_item : (j : ℕ) → one ok s j ≡ None → only (byte_is (ch "`") s j) (one ok s (j + 1)) ≡ None → (k : ℕ) → At s item j k → ⊥
             no_item j p q k (inl a) = some_end (sym p ∙ ((one_right s ok j).top k a).1)
             no_item j p q k (inr a) = some_end (sym q ∙ ((after_right j).top k a).1)
 
     -- So does the loop.
-    loop_right : Right (Left start) (loop (backtick_turn s) (λ a. Nothing) (fuel s) start)
-    loop_right = loop_gives turns (λ a. Nothing) (fuel s) start (record { to = λ e x. x; from = λ e x. x }) (omega arith)
+    loop_right : Right (Left start) (loop (backtick_turn s) (λ a. None) (fuel s) start)
+    loop_right = loop_gives turns (λ a. None) (fuel s) start (record { to = λ e x. x; from = λ e x. x }) (omega arith)
 
   -- `match_backtick_ident` finds the end of a name in backticks.
   pub backtick_right : (i : ℕ) → Right (At s (seq (text "``") (seq (at_least_one item) (text "``"))) i) (match_backtick_ident s i)

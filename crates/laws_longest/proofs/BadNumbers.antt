@@ -3,6 +3,7 @@
 -- integer reaches as far.
 -- "Since digits are ident chars, the shortest float matches are the relevant ones": after the shortest part of a number with a point
 -- or an exponent, digits are the first characters of the identifier. Rests on integers and on the shortest parts.
+use Rattle.std.specs.Prelude.{Option, Some, None}
 use Prim.Native.Nat.{ℕ, zero, suc, ◌≤◌, ◌<◌}
 use mathlib.Core.Path.{◌≡◌, refl, sym, subst}
 use mathlib.Core.Bool.{Bool, true, false, ◌||◌}
@@ -18,8 +19,6 @@ use Rattle.definition.specs.Matchers.{◌then◌, later, max_list, plus, match_i
 use Rattle.definition.specs.Regex.{Re, eps, chr, seq, alt, many, at_least_one}
 use Rattle.definition.specs.Samples.{nullable}
 use Rattle.definition.specs.Patterns.{integer, xinteger, floatp, floate, ieee64, xieee64}
-use Rattle.definition.specs.declared.Match.{Match}
-use Rattle.definition.specs.declared.Match.TheVariants.{To, Nothing}
 use Rattle.lemmas.proofs.Cases.{by_order}
 use Rattle.lemmas.proofs.Cases.{either}
 use Rattle.laws_progress.proofs.Matches.{small_hex}
@@ -164,21 +163,21 @@ abbrev pub letters : Bytes → Re
 letters f = at_least_one (chr (is_ident_char f))
 
 -- What one of two answers reaches the later one does.
-pub reaches_later : (m n : Match) (k : ℕ) → Reaches k m ⊎ Reaches k n → Reaches k (later m n)
+pub reaches_later : (m n : Option ℕ) (k : ℕ) → Reaches k m ⊎ Reaches k n → Reaches k (later m n)
 reaches_later m n k = (right_later (itself m) (itself n)).top k
   where
-    itself : (m : Match) → Right (λ k. Reaches k m) m
+    itself : (m : Option ℕ) → Right (λ k. Reaches k m) m
     itself m = record { fits = λ e q. (e, q, omega arith); top = λ k h. h }
 
 -- So does the latest of at_least_one answers.
-reaches_max : (ms : List Match) (n k : ℕ) → Reaches k (get_or ms n Nothing) → Reaches k (max_list ms)
+reaches_max : (ms : List (Option ℕ)) (n k : ℕ) → Reaches k (get_or ms n None) → Reaches k (max_list ms)
 unfolding max_list
 reaches_max [] n k h = h
 reaches_max (m ∷ ms) zero k h = reaches_later m (max_list ms) k (inl h)
 reaches_max (m ∷ ms) (suc n) k h = reaches_later m (max_list ms) k (inr (reaches_max ms n k h))
 
 -- A right answer is an end of whatever its ends are ends of.
-pub right_end : {P Q : ℕ → Type 0} {m : Match} → Right P m → ((e : ℕ) → P e → Q e) → Each_end Q m
+pub right_end : {P Q : ℕ → Type 0} {m : Option ℕ} → Right P m → ((e : ℕ) → P e → Q e) → Each_end Q m
 right_end r f = record { at = λ {e} q. f e (r.fits e q) }
 
 module _ (s f : Bytes) (i : ℕ) where
@@ -206,7 +205,7 @@ module _ (s f : Bytes) (i : ℕ) where
       long e (a, x, (b, y, (c, z, (d, w, t)))) = (a, x, (b, y, (c, z, (d, w, (e, t, stop refl)))))
 
   -- So what it finds fits.
-  pub bad_fits : (e : ℕ) → match_bad_number s f i ≡ To e → At s (bad_number f) i e
+  pub bad_fits : (e : ℕ) → match_bad_number s f i ≡ Some e → At s (bad_number f) i e
   bad_fits e q = bad_ends.at q
 
   -- ---- every end is reached
@@ -231,12 +230,12 @@ module _ (s f : Bytes) (i : ℕ) where
   letters_run j k (m, a, c) = step m a c
 
   -- They are found after an end that is found.
-  found_reaches : {m : Match} (j k : ℕ) → m ≡ To j → Chain (Step s (is_ident_char f)) j k → j < k → Reaches k (m then plus (is_ident_char f) s)
+  found_reaches : {m : Option ℕ} (j k : ℕ) → m ≡ Some j → Chain (Step s (is_ident_char f)) j k → j < k → Reaches k (m then plus (is_ident_char f) s)
   found_reaches j k q c h =
-      subst (λ (m : Match). Reaches k (m then plus (is_ident_char f) s)) (sym q) ((plus_right s (is_ident_char f) j).top k (run_some s (is_ident_char f) c h))
+      subst (λ (m : Option ℕ). Reaches k (m then plus (is_ident_char f) s)) (sym q) ((plus_right s (is_ident_char f) j).top k (run_some s (is_ident_char f) c h))
 
   -- After a shortest part that has one end, digits are the first of those characters, so what they lead to is reached after it.
-  pub short_reaches : {m : Match} (r : Re) → Single (At s r i) → Right (At s r i) m → (j n k : ℕ) → At s r i j → Chain (Step s is_digit) j n
+  pub short_reaches : {m : Option ℕ} (r : Re) → Single (At s r i) → Right (At s r i) m → (j n k : ℕ) → At s r i j → Chain (Step s is_digit) j n
       → At s (letters f) n k → Reaches k (m then plus (is_ident_char f) s)
   short_reaches r one h j n k a c b =
       let d = at_run s (is_ident_char f) (many (chr is_digit)) (digit_ident f) j n c in

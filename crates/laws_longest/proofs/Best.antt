@@ -1,5 +1,6 @@
 -- The choice among places: what is kept is the longest end, and of those the one of the earliest place. It speaks of numbers: P k e
 -- says that place k has an end e, whatever a place is. Rests on the definition of `keep`, of `try_words` and of `try_all` alone.
+use Rattle.std.specs.Prelude.{Option, Some, None}
 use Prim.Native.Nat.{ℕ, suc, ◌+◌, ◌≤◌, ◌<◌}
 use Prim.Native.String.{String}
 use mathlib.Core.Path.{◌≡◌, refl, sym, ap, subst, ◌∙◌}
@@ -14,8 +15,6 @@ use Rattle.definition.specs.Basics.{Bytes}
 use Rattle.definition.specs.Tables.{cps}
 use Rattle.definition.specs.Select.{none_at, keep, found, try_words, try_all}
 use Rattle.definition.specs.declared.Choice.{Choice}
-use Rattle.definition.specs.declared.Match.{Match}
-use Rattle.definition.specs.declared.Match.TheVariants.{To, Nothing}
 use Rattle.lemmas.proofs.Cases.{by_if_lt, both}
 use Rattle.lemmas.proofs.Each.{Numbered, no_more, ◌⨟◌}
 use Rattle.laws_longest.proofs.Ends.{Right, some_end}
@@ -38,14 +37,14 @@ module _ {i k : ℕ} where
   picks_none = record { forward = omega arith; fits = λ l. absurd (omega arith); top = λ e p. absurd p }
 
   -- A right answer of a matcher is the choice of its place.
-  pub picks_found : {P : ℕ → Type 0} (w : ℕ) {m : Match} → ((e : ℕ) → P e → i ≤ e) → Right P m → Picks P i k (found i k w m)
-  picks_found w {m = To e} ahead r =
+  pub picks_found : {P : ℕ → Type 0} (w : ℕ) {m : Option ℕ} → ((e : ℕ) → P e → i ≤ e) → Right P m → Picks P i k (found i k w m)
+  picks_found w {m = Some e} ahead r =
       record {
         forward = ahead e (r.fits e refl);
         fits = λ l. (refl, r.fits e refl);
         top = λ x p. let t = r.top x p in let z : e ≡ t.0 = cc t.1 in omega (arith, t.2);
       }
-  picks_found w {m = Nothing} ahead r = record { forward = omega arith; fits = λ l. absurd (omega arith); top = λ x p. some_end (r.top x p).1 }
+  picks_found w {m = None} ahead r = record { forward = omega arith; fits = λ l. absurd (omega arith); top = λ x p. some_end (r.top x p).1 }
 
   -- The better of two choices is right for the ends of both.
   picks_keep : {P Q : ℕ → Type 0} {b c : Choice} → Picks P i k b → Picks Q i k c → Picks (λ e. P e ⊎ Q e) i k (keep b c)
@@ -80,7 +79,7 @@ all_words t [] = true
 all_words t (e ∷ es) = t e && all_words t es
 
 -- The choice among the words of a table, where each has its matcher, is the longest, and no shorter than the choice before.
-pub picks_words : (i k : ℕ) (t : String → Bool) {Q : String → ℕ → Type 0} (m : Bytes → Match)
+pub picks_words : (i k : ℕ) (t : String → Bool) {Q : String → ℕ → Type 0} (m : Bytes → Option ℕ)
     → ((x : String) (e : ℕ) → Q x e → i ≤ e) → ((x : String) → t x ≡ true → Right (Q x) (m (cps x)))
     → (w : ℕ) (es : List String) → all_words t es ≡ true → {P : ℕ → Type 0} {b : Choice} → Picks P i k b
     → Picks (λ e. P e ⊎ OneOf (λ x. Q x e) es) i k (try_words i k m w es b)
@@ -105,7 +104,7 @@ picks_words i k t {Q} m ahead r w (x ∷ es) h {P} b =
     from e (inr (inr o)) = inr o
 
 -- The choice among the words of a table is the longest.
-pub picks_table : (i k : ℕ) (t : String → Bool) {Q : String → ℕ → Type 0} (m : Bytes → Match)
+pub picks_table : (i k : ℕ) (t : String → Bool) {Q : String → ℕ → Type 0} (m : Bytes → Option ℕ)
     → ((x : String) (e : ℕ) → Q x e → i ≤ e) → ((x : String) → t x ≡ true → Right (Q x) (m (cps x)))
     → (es : List String) → all_words t es ≡ true → Picks (λ e. OneOf (λ x. Q x e) es) i k (try_words i k m 0 es (none_at i))
 picks_table i k t {Q} m ahead r es h = picks_map to (λ e o. inr o) (picks_words i k t m ahead r 0 es h picks_none)
@@ -216,10 +215,10 @@ best_all {P} {i} {cs} gs =
         }
 
 -- What a matcher finds for one place is the best, where no other has an end at all and it has one.
-pub best_alone : {P : ℕ → ℕ → Type 0} {i : ℕ} (n k : ℕ) {m : Match} → 1 ≤ k → k ≤ n → ((j e : ℕ) → (j ≡ k → ⊥) → P j e → ⊥) → Right (P k) m
+pub best_alone : {P : ℕ → ℕ → Type 0} {i : ℕ} (n k : ℕ) {m : Option ℕ} → 1 ≤ k → k ≤ n → ((j e : ℕ) → (j ≡ k → ⊥) → P j e → ⊥) → Right (P k) m
     → (e : ℕ) → i < e → P k e → Best P i n (found i k 0 m)
-best_alone n k {m = Nothing} a b others r e l p = some_end (r.top e p).1
-best_alone {P} {i} n k {m = To x} a b others r e l p =
+best_alone n k {m = None} a b others r e l p = some_end (r.top e p).1
+best_alone {P} {i} n k {m = Some x} a b others r e l p =
     let past : i < x = omega (arith, under e p) in
     record {
       forward = omega arith;

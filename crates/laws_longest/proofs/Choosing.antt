@@ -1,6 +1,7 @@
 -- The choice of `select` is the longest, and the longest end of each place is that of its pattern, both where `Numbers` holds.
 -- On the fast paths, that no other place permits anything is read off the patterns' first characters, which are computed.
 -- Rests on the places and on the choice among them.
+use Rattle.std.specs.Prelude.{Option}
 use Prim.Native.Nat.{ℕ, zero, suc, ◌+◌, ◌≤◌, ◌<◌}
 use mathlib.Core.Path.{◌≡◌, refl, sym, subst, ◌∙◌}
 use mathlib.Core.Bool.{Bool, true, false, not, ◌&&◌, ◌||◌, false≢true}
@@ -25,7 +26,6 @@ use Rattle.definition.specs.Longest.{Permitted, Longest}
 use Rattle.definition.specs.Samples.{nullable}
 use Rattle.definition.specs.declared.Choice.{Choice}
 use Rattle.definition.specs.declared.Sequence.TheVariants.{Char}
-use Rattle.definition.specs.declared.Match.{Match}
 use Rattle.lemmas.proofs.Cases.{by_order}
 use Rattle.lemmas.proofs.Cases.{by_test, by_lt, both, either}
 use Rattle.lemmas.proofs.Each.{numbered_within, numbered_map}
@@ -139,7 +139,7 @@ module _ (s f : Bytes) (i : ℕ) where
       false≢true (sym (other_at k 0 (all_patterns f) c h j (λ x. d (sym z ∙ x))) ∙ (step_code q t).1)
 
   -- So what place k finds is the best, if its pattern permits that character alone.
-  fast_best : (p q : ℕ → Bool) (k : ℕ) {m : Match} → 1 ≤ k → k ≤ 50 → ((c : ℕ) → p c ≡ true → only_one k 0 (all_patterns f) c ≡ true)
+  fast_best : (p q : ℕ → Bool) (k : ℕ) {m : Option ℕ} → 1 ≤ k → k ≤ 50 → ((c : ℕ) → p c ≡ true → only_one k 0 (all_patterns f) c ≡ true)
       → ((c : ℕ) → p c ≡ true → q c ≡ true) → Right (Has s f i k) m → ((e : ℕ) → Step s q i e → Has s f i k e)
       → char_has p s i ≡ true → Best (Has s f i) i 50 (found i k 0 m)
   fast_best p q k a b only passes r permits t =

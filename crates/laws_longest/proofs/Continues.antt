@@ -1,7 +1,7 @@
 -- Two laws that numbers need. A byte that is one of two letters, tested as the source does, is one of the list that the pattern has.
 -- And where after the lesser of two ends always stands a character of at_least_one class, something that begins with no such character follows
 -- the greatest end alone: a run is so, and what ends with a run. Rests on the shapes.
-use Rattle.std.specs.Prelude.{if◌then◌else◌}
+use Rattle.std.specs.Prelude.{if◌then◌else◌, Option}
 use Prim.Native.Nat.{ℕ, ◌+◌, ◌<◌}
 use mathlib.Core.Path.{◌≡◌, refl, sym, ap₂, subst, ◌∙◌, fun_ext}
 use mathlib.Core.Bool.{Bool, true, false, not, ◌||◌, false≢true}
@@ -15,7 +15,6 @@ use Rattle.definition.specs.Text.{byte_has}
 use Rattle.definition.specs.Matchers.{◌then◌, max_list, only}
 use Rattle.definition.specs.Regex.{Re, chr, at_least_one}
 use Rattle.definition.specs.Samples.{nullable}
-use Rattle.definition.specs.declared.Match.{Match}
 use Rattle.lemmas.proofs.Cases.{by_order}
 use Rattle.laws_progress.proofs.Matches.{Small, small_is, small_or}
 use Rattle.laws_longest.proofs.Language.{Step, step, At}
@@ -58,7 +57,7 @@ none_listed l p h c t e = false≢true (sym (not-true _ (listed_passes (λ c. no
 
 module _ (s : Bytes) where
   -- A byte that is one of two letters of ASCII is found first, and then what a matcher finds after it.
-  pub right_two : {Q : ℕ → ℕ → Type 0} {m : Match} (a b : ℕ) → a < 0x80 → b < 0x80 → (i j : ℕ) → j ≡ i + 1 → Right (Q j) m
+  pub right_two : {Q : ℕ → ℕ → Type 0} {m : Option ℕ} (a b : ℕ) → a < 0x80 → b < 0x80 → (i j : ℕ) → j ≡ i + 1 → Right (Q j) m
       → Right (Then (Step s (λ c. mem_cp c (a ∷ b ∷ [])) i) Q) (only (byte_has (two a b) s i) m)
   right_two {Q} {m} a b x y i j e h =
       subst (λ (p : ℕ → Bool). Right (Then (Step s p i) Q) (only (byte_has (two a b) s i) m)) (two_listed a b)
@@ -74,7 +73,7 @@ module _ (s : Bytes) where
 -- ---- alternatives
 
 -- Where a test chooses between two matchers, and the second has no end where it passes, the choice is right for the ends of both.
-pub right_branch : {P Q : ℕ → Type 0} (m n : Match) (t : Bool) → Right P (only t m) → (t ≡ true → (k : ℕ) → Q k → ⊥) → Right Q n
+pub right_branch : {P Q : ℕ → Type 0} (m n : Option ℕ) (t : Bool) → Right P (only t m) → (t ≡ true → (k : ℕ) → Q k → ⊥) → Right Q n
     → Right (λ e. P e ⊎ Q e) (if t then m else n)
 right_branch {P} {Q} m n true a out b = right_map (λ e p. inl p) first a
   where
@@ -88,7 +87,7 @@ right_branch {P} {Q} m n false a out b = right_map (λ e q. inr q) second b
     second e (inr q) = q
 
 -- The latest in a list of two right answers is right for the ends of both.
-pub right_max : {P Q : ℕ → Type 0} {m n : Match} → Right P m → Right Q n → Right (λ e. P e ⊎ Q e) (max_list (m ∷ n ∷ []))
+pub right_max : {P Q : ℕ → Type 0} {m n : Option ℕ} → Right P m → Right Q n → Right (λ e. P e ⊎ Q e) (max_list (m ∷ n ∷ []))
 unfolding max_list
 right_max {Q = Q} a b = right_later a (right_map (λ e. found e) (λ e q. inl q) (right_later b (right_nothing {P = λ e. ⊥} (λ k n. n))))
   where
@@ -145,5 +144,5 @@ module _ (s : Bytes) (p : ℕ → Bool) where
         by_order m n (λ h. absurd (at_greatest m n j a b h x)) (λ h. by_order n m (λ l. absurd (at_greatest n m k b a l y)) (λ l. omega arith))
 
     -- So its matcher goes on from the greatest end rightly.
-    pub continues_then : {m : Match} {g : ℕ → Match} → Right P m → ((j : ℕ) → Right (At s q j) (g j)) → Right (Then P (At s q)) (m then g)
+    pub continues_then : {m : Option ℕ} {g : ℕ → Option ℕ} → Right P m → ((j : ℕ) → Right (At s q j) (g j)) → Right (Then P (At s q)) (m then g)
     continues_then r h = right_last at_greatest r (λ j _. h j)

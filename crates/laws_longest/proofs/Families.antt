@@ -1,5 +1,6 @@
 -- The families of places that are one shape with other characters: names, operators after a first character or a word, words after
 -- a test, and tables of words. Rests on the shapes and on the choice among the words of a table.
+use Rattle.std.specs.Prelude.{Option, Some}
 use Prim.Native.Nat.{ℕ, ◌+◌, ◌<◌}
 use Prim.Native.String.{String}
 use mathlib.Core.Path.{◌≡◌, refl, sym, subst}
@@ -15,8 +16,6 @@ use Rattle.definition.specs.Matchers.{◌then◌, only, one, match_lit, match_id
 use Rattle.definition.specs.Select.{none_at, try_words, one_of_then_symbols}
 use Rattle.definition.specs.Regex.{Re, seq, word}
 use Rattle.definition.specs.Patterns.{text, one_of, one_word, identifier, constructor, symbols}
-use Rattle.definition.specs.declared.Match.{Match}
-use Rattle.definition.specs.declared.Match.TheVariants.{To}
 use Rattle.laws_progress.proofs.Matches.{small_is}
 use Rattle.laws_progress.proofs.Words.{all_plain}
 use Rattle.laws_longest.proofs.Language.{Step, Chain, At}
@@ -34,7 +33,7 @@ module _ (s : Bytes) where
   -- ---- a first part and a run
 
   -- A character, and all after it that pass another test, are found by `one` and `star`.
-  pub head_run : (p q : ℕ → Bool) (i : ℕ) → Right (Then (Step s p i) (Chain (Step s q))) (one p s i then λ j. To (star q s j))
+  pub head_run : (p q : ℕ → Bool) (i : ℕ) → Right (Then (Step s p i) (Chain (Step s q))) (one p s i then λ j. Some (star q s j))
   head_run p q i = right_then (step_single s) (one_right s p i) (λ j _. star_right s q j)
 
   -- `match_ident` finds the longest identifier.
@@ -57,19 +56,19 @@ module _ (s : Bytes) where
   -- ---- words
 
   -- A word is found first, and then what a matcher finds after it.
-  pub word_then : {Q : ℕ → ℕ → Type 0} {f : ℕ → Match} (w : String) (i : ℕ) → all_plain (codes w) ≡ true
+  pub word_then : {Q : ℕ → ℕ → Type 0} {f : ℕ → Option ℕ} (w : String) (i : ℕ) → all_plain (codes w) ≡ true
       → ((j : ℕ) → Right (Q j) (f j)) → Right (Then (At s (text w) i) Q) (match_lit s (cps w) i then f)
   word_then w i p h = right_then (at_single s (text w) i (word_one_way (codes w))) (text_right s w p i) (λ j _. h j)
 
   -- The same holds of a letter of ASCII that is tested as a character.
-  pub letter_then : {Q : ℕ → ℕ → Type 0} {m : Match} (c i : ℕ) → c < 0x80 → Right (Q (i + 1)) m
+  pub letter_then : {Q : ℕ → ℕ → Type 0} {m : Option ℕ} (c i : ℕ) → c < 0x80 → Right (Q (i + 1)) m
       → Right (Then (At s (word (c ∷ [])) i) Q) (only (char_has (λ x. eqb x c) s i) m)
   letter_then {Q} {m} c i small h =
       subst (λ (t : Bool). Right (Then (At s (word (c ∷ [])) i) Q) (only t m)) (sym (has_byte s (small_is c small) i))
       (right_letter s c small i (i + 1) refl (λ _. h))
 
   -- It holds with nothing after the letter, too.
-  pub letter_right : (c i : ℕ) → c < 0x80 → Right (At s (word (c ∷ [])) i) (only (char_has (λ x. eqb x c) s i) (To (i + 1)))
+  pub letter_right : (c i : ℕ) → c < 0x80 → Right (At s (word (c ∷ [])) i) (only (char_has (λ x. eqb x c) s i) (Some (i + 1)))
   letter_right c i small = right_has s (small_is c small) i (i + 1) refl (λ _. right_here s)
 
   -- ---- tables
@@ -112,7 +111,7 @@ module _ (s : Bytes) where
       of_then (x ∷ es) e (j, inr a, b) = inr (of_then es e (j, a, b))
 
       -- The choice among the words of a table, each with a matcher after it, is the longest that the expressions permit.
-      pub table_then : (k : ℕ) (f : ℕ → Match) → ((j : ℕ) → Right (At s q j) (f j)) → (es : List String) → all_words spelled es ≡ true
+      pub table_then : (k : ℕ) (f : ℕ → Option ℕ) → ((j : ℕ) → Right (At s q j) (f j)) → (es : List String) → all_words spelled es ≡ true
           → Picks (At s (seq (one_word es) q) i) i k (try_words i k (λ w. match_lit s w i then f) 0 es (none_at i))
       table_then k f g es h =
           picks_map (then_of es) (of_then es)

@@ -1,7 +1,7 @@
 -- Numbers with a point, with an exponent, and reals: what each matcher finds is the longest end of its pattern. The same of their
 -- shortest parts, which stop after the point or after one digit of the exponent: such a part has one end. Rests on integers and on
 -- the laws of ends that can go on.
-use Rattle.std.specs.Prelude.{if◌then◌else◌}
+use Rattle.std.specs.Prelude.{if◌then◌else◌, Option, Some}
 use Prim.Native.Nat.{ℕ, ◌+◌}
 use mathlib.Core.Path.{◌≡◌, refl, sym, subst}
 use mathlib.Core.Bool.{Bool, true, false, not, ◌||◌}
@@ -15,8 +15,6 @@ use Rattle.definition.specs.Matchers.{◌then◌, later, only, match_integer, ma
 use Rattle.definition.specs.Regex.{Re, chr, seq, many, opt}
 use Rattle.definition.specs.Patterns.{text, one_of, integer, floatp, floate}
 use Rattle.definition.specs.Samples.{nullable}
-use Rattle.definition.specs.declared.Match.{Match}
-use Rattle.definition.specs.declared.Match.TheVariants.{To}
 use Rattle.lemmas.proofs.Cases.{either}
 use Rattle.laws_progress.proofs.Matches.{small_is, small_digit}
 use Rattle.laws_longest.proofs.Language.{At}
@@ -80,14 +78,14 @@ module _ (s : Bytes) where
   digits_continue i = run_continues s is_digit is_digit (λ c t. t) i
 
   -- What begins with no digit is found after the greatest end of an integer.
-  integer_then : (q : Re) → nullable q ≡ false → ((c : ℕ) → is_digit c ≡ true → starts q c ≡ true → ⊥) → {g : ℕ → Match} → ((j : ℕ) → Right (At s q j) (g j))
+  integer_then : (q : Re) → nullable q ≡ false → ((c : ℕ) → is_digit c ≡ true → starts q c ≡ true → ⊥) → {g : ℕ → Option ℕ} → ((j : ℕ) → Right (At s q j) (g j))
       → (i : ℕ) → Right (At s (seq integer q) i) (match_integer s i then g)
   integer_then q full other h i = continues_then s is_digit (digits_continue i) q full other (integer_right s i) h
 
   -- ---- a point
 
   -- A point and the longest run of digits after it are found.
-  fraction_right : (j : ℕ) → Right (At s fraction j) (only (byte_is (ch ".") s j) (To (star is_digit s (j + 1))))
+  fraction_right : (j : ℕ) → Right (At s fraction j) (only (byte_is (ch ".") s j) (Some (star is_digit s (j + 1))))
   fraction_right j = right_letter s (ch ".") (omega arith) j (j + 1) refl (λ _. star_right s is_digit (j + 1))
 
   -- They go on by digits.
@@ -112,7 +110,7 @@ module _ (s : Bytes) where
 
   -- ---- an exponent
 
-  module _ (t : Re) (full : nullable t ≡ false) (unsigned : all_pass (λ c. not (starts t c)) (codes "+-") ≡ true) {g : ℕ → Match}
+  module _ (t : Re) (full : nullable t ≡ false) (unsigned : all_pass (λ c. not (starts t c)) (codes "+-") ≡ true) {g : ℕ → Option ℕ}
       (ends : (j : ℕ) → Right (At s t j) (g j)) where
     -- A sign that may be left out is skipped, and what begins with no sign is found after it.
     sign_right : (k : ℕ) → Right (At s (seq (opt (one_of "+-")) t) k) (g (skip_sign s k))
@@ -163,8 +161,8 @@ module _ (s : Bytes) where
   -- ---- shortest parts
 
   -- The matcher of a number up to its point.
-  abbrev pub match_pointed : ℕ → Match
-  match_pointed i = match_integer s i then λ j. only (byte_is (ch ".") s j) (To (j + 1))
+  abbrev pub match_pointed : ℕ → Option ℕ
+  match_pointed i = match_integer s i then λ j. only (byte_is (ch ".") s j) (Some (j + 1))
 
   -- It finds such a number.
   pub pointed_right : (i : ℕ) → Right (At s pointed i) (match_pointed i)
@@ -176,11 +174,11 @@ module _ (s : Bytes) where
       parted_then (λ j k. j ≡ k) (continues_parted s is_digit (digits_continue i) (text ".") refl digit_or_point) (λ m. at_single s (text ".") m refl)
 
   -- The matcher of an exponent of one digit.
-  abbrev short_exponent : ℕ → Match
-  short_exponent k = only (byte_has is_e s k) (only (byte_has is_digit s (skip_sign s (k + 1))) (To (skip_sign s (k + 1) + 1)))
+  abbrev short_exponent : ℕ → Option ℕ
+  short_exponent k = only (byte_has is_e s k) (only (byte_has is_digit s (skip_sign s (k + 1))) (Some (skip_sign s (k + 1) + 1)))
 
   -- The matcher of a number with such an exponent.
-  abbrev pub match_short : ℕ → Match
+  abbrev pub match_short : ℕ → Option ℕ
   match_short i = later (match_integer s i then short_exponent) (match_pointed i then λ k. short_exponent (star is_digit s k))
 
   -- It finds such a number.

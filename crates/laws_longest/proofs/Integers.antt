@@ -1,6 +1,7 @@
 -- Integers, plain or with a letter for their base, alone or with a suffix: what each matcher finds is the longest end of its pattern.
 -- After the lesser of two ends of an integer stands a hexadecimal digit, and no suffix begins with one. Rests on the shapes and on the
 -- laws of ends that can go on.
+use Rattle.std.specs.Prelude.{Option}
 use Prim.Native.Nat.{ℕ, ◌+◌, ◌≤◌}
 use Prim.Native.String.{String}
 use mathlib.Core.Path.{◌≡◌, refl, subst}
@@ -18,7 +19,6 @@ use Rattle.definition.specs.Matchers.{◌then◌, max_list, plus, match_integer,
 use Rattle.definition.specs.Regex.{Re, chr, seq, alt, at_least_one, word}
 use Rattle.definition.specs.Patterns.{text, one_of, integer, xinteger, any_integer, suffixed, usuffixed}
 use Rattle.definition.specs.Samples.{nullable}
-use Rattle.definition.specs.declared.Match.{Match}
 use Rattle.lemmas.proofs.Cases.{both, both_true, between_true}
 use Rattle.laws_progress.proofs.Words.{all_plain}
 use Rattle.laws_longest.proofs.Language.{At}
@@ -128,7 +128,7 @@ module _ (s : Bytes) where
       (λ j k. apart s (based "xX" is_hex) octal_or_binary m j k refl refl (none_listed (codes "xX") (starts octal_or_binary) refl))
 
   -- So what begins with no hexadecimal digit is found after the greatest end of either kind.
-  after_right : (q : Re) → nullable q ≡ false → ((c : ℕ) → is_hex c ≡ true → starts q c ≡ true → ⊥) → {g : ℕ → Match} → ((j : ℕ) → Right (At s q j) (g j))
+  after_right : (q : Re) → nullable q ≡ false → ((c : ℕ) → is_hex c ≡ true → starts q c ≡ true → ⊥) → {g : ℕ → Option ℕ} → ((j : ℕ) → Right (At s q j) (g j))
       → (i : ℕ) → Right (At s (seq any_integer q) i) (max_list (map (λ m. m then g) (any_integer_ends s i)))
   unfolding any_integer_ends
   after_right q full other h i =

@@ -2,6 +2,7 @@
 -- They hold for any class file: nothing is asked of it. Rests on the files beside this one, which prove them: a language over offsets
 -- (Language), right answers (Ends), first characters (Starts), the shapes of patterns (Shapes, Literals, Backticks, Families), numbers
 -- (Continues, Integers, Floats, BadNumbers, Numbers), the choice among ends (Best), and the 50 places (Places, Choosing).
+use Rattle.std.specs.Prelude.{Option, Some, None}
 use Prim.Native.Nat.{ℕ, ◌≤◌, ◌<◌}
 use mathlib.Core.Path.{◌≡◌, refl, sym, ◌∙◌}
 use native.Mathlib.Omega.{arith}
@@ -11,8 +12,6 @@ use Rattle.definition.specs.Matchers.{match_bad_number}
 use Rattle.definition.specs.Select.{select}
 use Rattle.definition.specs.Patterns.{pattern}
 use Rattle.definition.specs.Longest.{Permitted, Longest}
-use Rattle.definition.specs.declared.Match.{Match}
-use Rattle.definition.specs.declared.Match.TheVariants.{To, Nothing}
 use Rattle.laws_longest.specs.LongestEnd.{longest_end, LongestEnd}
 use Rattle.laws_longest.proofs.Language.{At, at_permits, permits_at}
 use Rattle.laws_longest.proofs.Ends.{Right, some_end}
@@ -37,13 +36,13 @@ place_longest s f k i h = record {
     r : Right (At s (pattern f k) i) (longest_end s f k i)
     r = end_right s f i (numbers s f i) k
 
-    none : (m : Match) → Right (At s (pattern f k) i) m → ((e : ℕ) → i < e → Permitted s f k i e → ⊥) → m ≡ Nothing
-    none Nothing _ _ = refl
-    none (To e) t g = let a = t.fits e refl in absurd (g e (pattern_ahead s f k i e a) (at_permits s (pattern f k) i e h a))
+    none : (m : Option ℕ) → Right (At s (pattern f k) i) m → ((e : ℕ) → i < e → Permitted s f k i e → ⊥) → m ≡ None
+    none None _ _ = refl
+    none (Some e) t g = let a = t.fits e refl in absurd (g e (pattern_ahead s f k i e a) (at_permits s (pattern f k) i e h a))
 
 -- The tie of `12`: place 27 permits it whole, its matcher finds nothing, and `select` takes the integer, whose place is the earlier.
 pub twelve : (f : Bytes)
     → Permitted (codes "12") f 27 0 2
-    × (match_bad_number (codes "12") f 0 ≡ Nothing)
+    × (match_bad_number (codes "12") f 0 ≡ None)
     × (select (codes "12") f 0 ≡ record { place = 16; end = 2; word = 0 })
 twelve f = (at_permits (codes "12") (pattern f 27) 0 2 (omega arith) (twelve_fits f), (twelve_chosen f).0, (twelve_chosen f).1)

@@ -1,4 +1,5 @@
 -- A line end and a character literal: what each matcher finds is the longest end of its pattern. Rests on the shapes.
+use Rattle.std.specs.Prelude.{Option, Some, None}
 use Prim.Native.Nat.{ℕ, ◌+◌, ◌≤◌}
 use mathlib.Core.Path.{◌≡◌, refl, sym, ap, subst, ◌∙◌}
 use mathlib.Core.Bool.{Bool, true, false, not, ◌&&◌, ◌||◌, false≢true}
@@ -16,8 +17,6 @@ use Rattle.definition.specs.Regex.{Re, chr, seq, alt}
 use Rattle.definition.specs.Patterns.{text, nl, escape_char, any_char}
 use Rattle.definition.specs.declared.Sequence.{Sequence}
 use Rattle.definition.specs.declared.Sequence.TheVariants.{Char, Bad, End}
-use Rattle.definition.specs.declared.Match.{Match}
-use Rattle.definition.specs.declared.Match.TheVariants.{To, Nothing}
 use Rattle.lemmas.proofs.Cases.{by_test, both, either}
 use Rattle.laws_progress.proofs.Matches.{small_is, small_mem, small_hex}
 use Rattle.laws_longest.proofs.Language.{Step, At}
@@ -30,7 +29,7 @@ pub not_both : (p : ℕ → Bool) (a : ℕ) → p a ≡ false → (c : ℕ) → 
 not_both p a n c t e = false≢true (sym n ∙ ap p (sym (eqb-true c a e)) ∙ t)
 
 -- Where a test passes, what it finds is there.
-found : {P : ℕ → Type 0} {e : ℕ} (t : Bool) → Right P (only t (To e)) → t ≡ true → P e
+found : {P : ℕ → Type 0} {e : ℕ} (t : Bool) → Right P (only t (Some e)) → t ≡ true → P e
 found {e = e} true r q = r.fits e refl
 found false r q = absurd (false≢true q)
 
@@ -38,9 +37,9 @@ module _ (s : Bytes) where
   -- ---- line ends
 
   -- A carriage return and a line feed are found by their two tests.
-  return_feed : (i : ℕ) → Right (At s (text "\r\n") i) (only (char_has (λ c. eqb c (ch "\r")) s i && byte_is (ch "\n") s (i + 1)) (To (i + 2)))
+  return_feed : (i : ℕ) → Right (At s (text "\r\n") i) (only (char_has (λ c. eqb c (ch "\r")) s i && byte_is (ch "\n") s (i + 1)) (Some (i + 2)))
   return_feed i =
-      right_both (To (i + 2)) (char_has (λ c. eqb c (ch "\r")) s i) (byte_is (ch "\n") s (i + 1))
+      right_both (Some (i + 2)) (char_has (λ c. eqb c (ch "\r")) s i) (byte_is (ch "\n") s (i + 1))
       (right_has s (small_is (ch "\r") (omega arith)) i (i + 1) refl λ _.
       right_byte s (small_is (ch "\n") (omega arith)) (i + 1) (i + 2) (omega arith) λ _. right_here s)
 
@@ -49,7 +48,7 @@ module _ (s : Bytes) where
   unfolding match_newline
   newline_right i =
       let t : Bool = char_has (λ c. eqb c (ch "\r")) s i && byte_is (ch "\n") s (i + 1) in
-      right_elim (To (i + 2)) (one is_newline_char s i) t (right_if t (return_feed i) one_byte (one_right s is_newline_char i))
+      right_elim (Some (i + 2)) (one is_newline_char s i) t (right_if t (return_feed i) one_byte (one_right s is_newline_char i))
     where
       one_byte : char_has (λ c. eqb c (ch "\r")) s i && byte_is (ch "\n") s (i + 1) ≡ true → (k : ℕ) → Step s is_newline_char i k → k ≤ i + 2
       one_byte t k h =
@@ -95,12 +94,12 @@ module _ (s : Bytes) where
       single_alt (step_single s) (single_alt (at_single s short j refl) (at_single s long j refl) (short_apart j)) (letter_apart j))
 
   -- A hexadecimal digit at j is found first, and then what a matcher finds after it.
-  hex_then : {Q : ℕ → ℕ → Type 0} {m : Match} (j k : ℕ) → k ≡ j + 1 → Right (Q k) m → Right (Then (Step s is_hex j) Q) (only (byte_has is_hex s j) m)
+  hex_then : {Q : ℕ → ℕ → Type 0} {m : Option ℕ} (j k : ℕ) → k ≡ j + 1 → Right (Q k) m → Right (Then (Step s is_hex j) Q) (only (byte_has is_hex s j) m)
   hex_then j k e h = right_byte s small_hex j k e (λ _. h)
 
   -- The last digit is found by its test.
-  hex_last : (j k : ℕ) → k ≡ j + 1 → Right (Step s is_hex j) (only (byte_has is_hex s j) (To k))
-  hex_last j k e = subst (λ (x : ℕ). Right (Step s is_hex j) (only (byte_has is_hex s j) (To x))) (sym e) (byte_right s small_hex j)
+  hex_last : (j k : ℕ) → k ≡ j + 1 → Right (Step s is_hex j) (only (byte_has is_hex s j) (Some k))
+  hex_last j k e = subst (λ (x : ℕ). Right (Step s is_hex j) (only (byte_has is_hex s j) (Some x))) (sym e) (byte_right s small_hex j)
 
   module _ (i : ℕ) where
     -- A test for a hexadecimal digit, so many bytes on.
@@ -108,30 +107,30 @@ module _ (s : Bytes) where
     hex k = byte_has is_hex s (i + k)
 
     -- A letter after the backslash is found by its test.
-    letter_right : Right (Step s (λ c. mem_cp c letters) (i + 1)) (only (byte_has (λ c. mem_cp c letters) s (i + 1)) (To (i + 2)))
+    letter_right : Right (Step s (λ c. mem_cp c letters) (i + 1)) (only (byte_has (λ c. mem_cp c letters) s (i + 1)) (Some (i + 2)))
     letter_right =
         let e : i + 1 + 1 ≡ i + 2 = omega arith in
-        subst (λ (x : ℕ). Right (Step s (λ c. mem_cp c letters) (i + 1)) (only (byte_has (λ c. mem_cp c letters) s (i + 1)) (To x))) e
+        subst (λ (x : ℕ). Right (Step s (λ c. mem_cp c letters) (i + 1)) (only (byte_has (λ c. mem_cp c letters) s (i + 1)) (Some x))) e
         (byte_right s (small_mem letters refl) (i + 1))
 
     -- An x and two digits are found by their tests.
-    short_right : Right (At s short (i + 1)) (only (byte_is (ch "x") s (i + 1) && (hex 2 && hex 3)) (To (i + 4)))
+    short_right : Right (At s short (i + 1)) (only (byte_is (ch "x") s (i + 1) && (hex 2 && hex 3)) (Some (i + 4)))
     short_right =
-        right_both (To (i + 4)) (byte_is (ch "x") s (i + 1)) (hex 2 && hex 3)
+        right_both (Some (i + 4)) (byte_is (ch "x") s (i + 1)) (hex 2 && hex 3)
         (right_letter s (ch "x") (omega arith) (i + 1) (i + 2) (omega arith) λ _.
-        right_both (To (i + 4)) (hex 2) (hex 3)
+        right_both (Some (i + 4)) (hex 2) (hex 3)
         (hex_then (i + 2) (i + 3) (omega arith) (hex_last (i + 3) (i + 4) (omega arith))))
 
     -- A u and four digits are found by theirs.
-    long_right : Right (At s long (i + 1)) (only (byte_is (ch "u") s (i + 1) && (hex 2 && (hex 3 && (hex 4 && hex 5)))) (To (i + 6)))
+    long_right : Right (At s long (i + 1)) (only (byte_is (ch "u") s (i + 1) && (hex 2 && (hex 3 && (hex 4 && hex 5)))) (Some (i + 6)))
     long_right =
-        right_both (To (i + 6)) (byte_is (ch "u") s (i + 1)) (hex 2 && (hex 3 && (hex 4 && hex 5)))
+        right_both (Some (i + 6)) (byte_is (ch "u") s (i + 1)) (hex 2 && (hex 3 && (hex 4 && hex 5)))
         (right_letter s (ch "u") (omega arith) (i + 1) (i + 2) (omega arith) λ _.
-        right_both (To (i + 6)) (hex 2) (hex 3 && (hex 4 && hex 5))
+        right_both (Some (i + 6)) (hex 2) (hex 3 && (hex 4 && hex 5))
         (hex_then (i + 2) (i + 3) (omega arith)
-        (right_both (To (i + 6)) (hex 3) (hex 4 && hex 5)
+        (right_both (Some (i + 6)) (hex 3) (hex 4 && hex 5)
         (hex_then (i + 3) (i + 4) (omega arith)
-        (right_both (To (i + 6)) (hex 4) (hex 5)
+        (right_both (Some (i + 6)) (hex 4) (hex 5)
         (hex_then (i + 4) (i + 5) (omega arith) (hex_last (i + 5) (i + 6) (omega arith))))))))
 
     -- `match_escape` finds the end of an escape.
@@ -144,7 +143,7 @@ module _ (s : Bytes) where
         right_letter s (ch "\\") (omega arith) i (i + 1) refl λ _.
         right_if a letter_right (λ t k h. absurd (letter_apart (i + 1) (i + 2) k (found a letter_right t) h))
         (right_if b short_right (λ t k h. absurd (short_apart (i + 1) (i + 4) k (found b short_right t) h))
-        (right_else (To (i + 6)) c long_right))
+        (right_else (Some (i + 6)) c long_right))
 
     -- `match_char` finds the end of a character or an escape.
     char_right : Right (At s any_char i) (match_char s i)
@@ -154,11 +153,11 @@ module _ (s : Bytes) where
         escapes : {c w : ℕ} → sequence_at s i ≡ Char c w → (k : ℕ) → At s escape_char i k → eqb c (ch "\\") ≡ true
         escapes q k h = (step_code q (at_first s escape_char i k h (at_ahead s escape_char i k refl h)).1).1
 
-        none : ((c w : ℕ) → sequence_at s i ≡ Char c w → ⊥) → Right (At s any_char i) Nothing
+        none : ((c w : ℕ) → sequence_at s i ≡ Char c w → ⊥) → Right (At s any_char i) None
         none n = right_nothing (λ k h. let x = (at_first s any_char i k h (at_ahead s any_char i k refl h)).1 in n x.code x.width x.read)
 
         go : (q : Sequence) → sequence_at s i ≡ q
-            → Right (At s any_char i) (with_char q i (λ c j. elim (eqb c (ch "\\")) [ true ↦ match_escape s i | false ↦ To j ]) Nothing)
+            → Right (At s any_char i) (with_char q i (λ c j. elim (eqb c (ch "\\")) [ true ↦ match_escape s i | false ↦ Some j ]) None)
         go (Char c w) q =
             by_test (Right (At s any_char i)) (eqb c (ch "\\"))
             (λ t. right_map (λ e h. inr h) (λ e. other e t) escape_right)

@@ -1,5 +1,6 @@
 -- The numbers, places 16 to 27: what is asked of them holds at every offset of every text. That place 27 is asked for less than the
 -- others is needed: at `12` its pattern fits and its matcher finds nothing. Rests on the laws of each kind of number.
+use Rattle.std.specs.Prelude.{None}
 use Prim.Native.Nat.{ℕ}
 use mathlib.Core.Path.{◌≡◌, refl}
 use mathlib.Core.Logic.{inl}
@@ -28,7 +29,6 @@ use Rattle.definition.specs.Matchers.{
 }
 use Rattle.definition.specs.Select.{keep, try_words, try_all, one_of_then_symbols, lit_then_symbols, places, select}
 use Rattle.definition.specs.Patterns.{patterns, pattern}
-use Rattle.definition.specs.declared.Match.TheVariants.{Nothing}
 use Rattle.laws_longest.proofs.Language.{Step, stop, At}
 use Rattle.laws_longest.proofs.Places.{Numbers}
 use Rattle.laws_longest.proofs.Integers.{any_integer_right, suffix_right, usuffix_right}
@@ -57,6 +57,6 @@ twelve_fits f =
     (1, inl (1, first, stop refl), (2, second, stop refl))
 
 -- Its matcher finds nothing there, and the choice is the integer, which reaches as far.
-pub twelve_chosen : (f : Bytes) → (match_bad_number (codes "12") f 0 ≡ Nothing) × (select (codes "12") f 0 ≡ record { place = 16; end = 2; word = 0 })
+pub twelve_chosen : (f : Bytes) → (match_bad_number (codes "12") f 0 ≡ None) × (select (codes "12") f 0 ≡ record { place = 16; end = 2; word = 0 })
 unfolding select places try_all try_words keep one_of_then_symbols lit_then_symbols early_literals kw_op_rules op_tokens mixfix_rules cps encode_all encode match_bad_number match_integer match_xinteger match_floatp match_floate match_real match_int_suffix match_int_usuffix any_integer_ends max_list later match_lit match_ident match_constructor plus one star loop sequence_at sequence char_has byte_has mem_cp is_digit is_op_char in_table ascii_table count_up is_lower is_ident_start is_constructor_start is_ident_char
 twelve_chosen f = (refl, refl)

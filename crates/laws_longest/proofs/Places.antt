@@ -1,6 +1,7 @@
 -- The 50 places, a line for each: what it chooses is the longest end of its pattern. Three lines are special. Places 7 and 8 ask for a
 -- character beyond ASCII, which is right only where neither fast path was taken; place 27 leaves out what place 16 reaches.
 -- Rests on the shapes, the families and, for places 16 to 27, on the record `Numbers`, which Numbers.antt proves.
+use Rattle.std.specs.Prelude.{Option, Some, None}
 use Prim.Native.Nat.{ℕ, ◌+◌, ◌≤◌, ◌<◌}
 use Prim.Native.Char.{Char as Letter}
 use Prim.Native.String.{String}
@@ -24,8 +25,6 @@ use Rattle.definition.specs.Patterns.{text, one_of, nl, identifier, constructor,
 use Rattle.definition.specs.Samples.{nullable}
 use Rattle.definition.specs.declared.Choice.{Choice}
 use Rattle.definition.specs.declared.Sequence.TheVariants.{Char}
-use Rattle.definition.specs.declared.Match.{Match}
-use Rattle.definition.specs.declared.Match.TheVariants.{To, Nothing}
 use Rattle.lemmas.proofs.Cases.{by_order}
 use Rattle.lemmas.proofs.Cases.{by_test, either}
 use Rattle.lemmas.proofs.Each.{Numbered, no_more, ◌⨟◌}
@@ -52,8 +51,8 @@ abbrev pub bad_number : Bytes → Re
 bad_number f = seq (alt integer (alt xinteger (alt ieee64 xieee64))) (at_least_one (chr (is_ident_char f)))
 
 -- What a matcher found reaches k.
-abbrev pub Reaches : ℕ → Match → Type 0
-Reaches k m = (e : ℕ) × (m ≡ To e) × (k ≤ e)
+abbrev pub Reaches : ℕ → Option ℕ → Type 0
+Reaches k m = (e : ℕ) × (m ≡ Some e) × (k ≤ e)
 
 -- The matchers of places 16 to 27, without the test for a digit in front. The longest end of a bad number is what place 27 finds or an
 -- integer; so one that place 27 doesn't reach is reached by place 16.
@@ -63,7 +62,7 @@ pub record Numbers (s f : Bytes) (i : ℕ) : Type 0 where
   pub usuffix : (w : String) → all_plain (codes w) ≡ true → Right (At s (usuffixed w) i) (match_int_usuffix s i (cps w))
   pub real : Right (At s (seq floatp (text "R")) i) (match_real s i)
   pub bad : Right (At s (bad_number f) i) (later (match_bad_number s f i) (two_digits s i))
-  pub bad_fits : (e : ℕ) → match_bad_number s f i ≡ To e → At s (bad_number f) i e
+  pub bad_fits : (e : ℕ) → match_bad_number s f i ≡ Some e → At s (bad_number f) i e
   pub bad_reached : (k : ℕ) → At s (bad_number f) i k → Reaches k (match_bad_number s f i) ⊎ Reaches k (max_list (any_integer_ends s i))
 
 -- ---- the tests in front
@@ -146,11 +145,11 @@ module _ (s f : Bytes) (i : ℕ) where
     special : (k ≡ 7) ⊎ ((k ≡ 8) ⊎ (k ≡ 27)) → (Slow s i → Sound Has chosen i k c) → Place k c
 
   -- What a place finds is its choice, where its matcher is right.
-  simple : (r : Re) {k : ℕ} {m : Match} → Right (At s r i) m → Picks (At s r i) i k (found i k 0 m)
+  simple : (r : Re) {k : ℕ} {m : Option ℕ} → Right (At s r i) m → Picks (At s r i) i k (found i k 0 m)
   simple r h = picks_found 0 (at_forward s r i) h
 
   -- The same holds with a test in front that each first character passes.
-  tested : (p : ℕ → Bool) (r : Re) {k : ℕ} {m : Match} → nullable r ≡ false → ((c : ℕ) → starts r c ≡ true → p c ≡ true) → Right (At s r i) m
+  tested : (p : ℕ → Bool) (r : Re) {k : ℕ} {m : Option ℕ} → nullable r ≡ false → ((c : ℕ) → starts r c ≡ true → p c ≡ true) → Right (At s r i) m
       → Picks (At s r i) i k (found i k 0 (only (char_has p s i) m))
   tested p r n g h = simple r (guard s r i n g h)
 
@@ -196,21 +195,21 @@ module _ (s f : Bytes) (i : ℕ) where
         (either (is_digit c || is_digit c) _ (either (is_digit c) (is_digit c) (λ t. t) (λ t. t)) (λ t. digit_or_zero c (right (is_digit c) _ t))))
 
     -- What a matcher reaches, the choice reaches.
-    end_found : (k e : ℕ) (m : Match) → Reaches e m → e ≤ (found i k 0 m).end
-    end_found k e (To x) (y, q, h) = let z : x ≡ y = cc in omega arith
-    end_found k e Nothing (y, q, h) = some_end q
+    end_found : (k e : ℕ) (m : Option ℕ) → Reaches e m → e ≤ (found i k 0 m).end
+    end_found k e (Some x) (y, q, h) = let z : x ≡ y = cc in omega arith
+    end_found k e None (y, q, h) = some_end q
 
     -- Place 27: what it doesn't reach, place 16 does.
     bad_sound : Sound Has chosen i 27 (found i 27 0 (only (char_has is_digit s i) (match_bad_number s f i)))
     unfolding places pattern patterns
     bad_sound = record { fits = fits (match_bad_number s f i) n.bad_fits (char_has is_digit s i); reached = λ e a. reached e a (char_has is_digit s i) (has e a) }
       where
-        fits : (m : Match) → ((e : ℕ) → m ≡ To e → At s (bad_number f) i e) → (t : Bool) → i < (found i 27 0 (only t m)).end
+        fits : (m : Option ℕ) → ((e : ℕ) → m ≡ Some e → At s (bad_number f) i e) → (t : Bool) → i < (found i 27 0 (only t m)).end
             → ((found i 27 0 (only t m)).place ≡ 27) × At s (bad_number f) i (found i 27 0 (only t m)).end
-        fits (To e) h true l = (refl, h e refl)
-        fits Nothing h true l = absurd (omega arith)
-        fits (To e) h false l = absurd (omega arith)
-        fits Nothing h false l = absurd (omega arith)
+        fits (Some e) h true l = (refl, h e refl)
+        fits None h true l = absurd (omega arith)
+        fits (Some e) h false l = absurd (omega arith)
+        fits None h false l = absurd (omega arith)
 
         has : (e : ℕ) → At s (bad_number f) i e → char_has is_digit s i ≡ true
         has e a = step_has (step_map bad_starts (at_first s (bad_number f) i e a (at_ahead s (bad_number f) i e refl a)).1)

@@ -1,5 +1,6 @@
 -- The shapes that patterns have, each with its matcher, over any class of characters: one character, a byte of ASCII, a word and a run.
 -- Rests on the laws of a text and of right answers.
+use Rattle.std.specs.Prelude.{Option, Some, None}
 use Prim.Native.Nat.{ℕ, suc, ◌+◌, ◌≤◌, ◌<◌}
 use Prim.Native.String.{String}
 use mathlib.Core.Path.{◌≡◌, refl, sym, ap, subst, ◌∙◌}
@@ -22,8 +23,6 @@ use Rattle.definition.specs.Regex.{chr, at_least_one, word}
 use Rattle.definition.specs.Patterns.{text}
 use Rattle.definition.specs.declared.Sequence.{Sequence}
 use Rattle.definition.specs.declared.Sequence.TheVariants.{Char, Bad, End}
-use Rattle.definition.specs.declared.Match.{Match}
-use Rattle.definition.specs.declared.Match.TheVariants.{To, Nothing}
 use Rattle.utf8.proofs.Character.{char_read}
 use Rattle.utf8.proofs.EncodingLaws.{encode_1}
 use Rattle.utf8.proofs.Star.{star_on, star_from, by_star}
@@ -83,10 +82,10 @@ module _ (s : Bytes) where
         (byte_found p i h.0 (ap p h.1 ∙ t.passes), omega (arith, t.ends, a.width, ap length q))
 
     -- So the byte decides.
-    pub byte_right : Right (Step s p i) (only (byte_has p s i) (To (i + 1)))
+    pub byte_right : Right (Step s p i) (only (byte_has p s i) (Some (i + 1)))
     byte_right = go (byte_has p s i) refl
       where
-        go : (t : Bool) → byte_has p s i ≡ t → Right (Step s p i) (only t (To (i + 1)))
+        go : (t : Bool) → byte_has p s i ≡ t → Right (Step s p i) (only t (Some (i + 1)))
         go true e = right_to (byte_step e) (λ k h. omega (arith, (step_byte h).1))
         go false e = right_nothing (λ k h. false≢true (sym e ∙ (step_byte h).0))
 
@@ -104,8 +103,8 @@ module _ (s : Bytes) where
         go false true x y = sym x ∙ step_has (byte_step y)
 
     -- So the character decides too.
-    pub has_right : Right (Step s p i) (only (char_has p s i) (To (i + 1)))
-    has_right = subst (λ (t : Bool). Right (Step s p i) (only t (To (i + 1)))) (sym has_byte) byte_right
+    pub has_right : Right (Step s p i) (only (char_has p s i) (Some (i + 1)))
+    has_right = subst (λ (t : Bool). Right (Step s p i) (only t (Some (i + 1)))) (sym has_byte) byte_right
 
   -- ---- one character
 
@@ -114,7 +113,7 @@ module _ (s : Bytes) where
   unfolding one
   one_right p i = go (sequence_at s i) refl
     where
-      go : (q : Sequence) → sequence_at s i ≡ q → Right (Step s p i) (with_char q i (λ c j. elim (p c) [ true ↦ To j | false ↦ Nothing ]) Nothing)
+      go : (q : Sequence) → sequence_at s i ≡ q → Right (Step s p i) (with_char q i (λ c j. elim (p c) [ true ↦ Some j | false ↦ None ]) None)
       go (Char c w) q =
           by_test (Right (Step s p i)) (p c)
           (λ t. right_to (record { code = c; width = w; read = q; ends = refl; passes = t }) (λ k h. omega (arith, (step_code q h).0)))
@@ -129,46 +128,46 @@ module _ (s : Bytes) where
   -- ---- a byte of ASCII and what is after it
 
   -- Where nothing more is asked the end is here.
-  pub right_here : {j : ℕ} → Right (λ e. j ≡ e) (To j)
+  pub right_here : {j : ℕ} → Right (λ e. j ≡ e) (Some j)
   right_here = right_to refl (λ k h. omega arith)
 
   -- A byte that passes a test for ASCII is found first, and then what a matcher finds after it.
-  pub right_byte : {p : ℕ → Bool} {Q : ℕ → ℕ → Type 0} {m : Match} → Small p → (i j : ℕ) → j ≡ i + 1 → (byte_has p s i ≡ true → Right (Q j) m)
+  pub right_byte : {p : ℕ → Bool} {Q : ℕ → ℕ → Type 0} {m : Option ℕ} → Small p → (i j : ℕ) → j ≡ i + 1 → (byte_has p s i ≡ true → Right (Q j) m)
       → Right (Then (Step s p i) Q) (only (byte_has p s i) m)
   right_byte {p} small i j e h =
       right_head j (byte_has p s i) step_single
-      (subst (λ (k : ℕ). Right (Step s p i) (only (byte_has p s i) (To k))) (sym e) (byte_right small i)) h
+      (subst (λ (k : ℕ). Right (Step s p i) (only (byte_has p s i) (Some k))) (sym e) (byte_right small i)) h
 
   -- The same holds by a test of the character.
-  pub right_has : {p : ℕ → Bool} {Q : ℕ → ℕ → Type 0} {m : Match} → Small p → (i j : ℕ) → j ≡ i + 1 → (char_has p s i ≡ true → Right (Q j) m)
+  pub right_has : {p : ℕ → Bool} {Q : ℕ → ℕ → Type 0} {m : Option ℕ} → Small p → (i j : ℕ) → j ≡ i + 1 → (char_has p s i ≡ true → Right (Q j) m)
       → Right (Then (Step s p i) Q) (only (char_has p s i) m)
   right_has {p} small i j e h =
       right_head j (char_has p s i) step_single
-      (subst (λ (k : ℕ). Right (Step s p i) (only (char_has p s i) (To k))) (sym e) (has_right small i)) h
+      (subst (λ (k : ℕ). Right (Step s p i) (only (char_has p s i) (Some k))) (sym e) (has_right small i)) h
 
   -- The same holds of a word of one letter of ASCII.
-  pub right_letter : {Q : ℕ → ℕ → Type 0} {m : Match} (c : ℕ) → c < 0x80 → (i j : ℕ) → j ≡ i + 1 → (byte_is c s i ≡ true → Right (Q j) m)
+  pub right_letter : {Q : ℕ → ℕ → Type 0} {m : Option ℕ} (c : ℕ) → c < 0x80 → (i j : ℕ) → j ≡ i + 1 → (byte_is c s i ≡ true → Right (Q j) m)
       → Right (Then (At s (word (c ∷ [])) i) Q) (only (byte_is c s i) m)
   right_letter c small i j e h = right_head j (byte_is c s i) (at_single s (word (c ∷ [])) i refl) (right_byte (small_is c small) i j e (λ _. right_here)) h
 
   -- ---- words
 
   -- Where at_least_one bytes stand they are found.
-  lit_finds : (l : Bytes) (i : ℕ) (rest : Bytes) → drop i s ≡ l ++ rest → match_lit s l i ≡ To (i + length l)
+  lit_finds : (l : Bytes) (i : ℕ) (rest : Bytes) → drop i s ≡ l ++ rest → match_lit s l i ≡ Some (i + length l)
   unfolding match_lit
-  lit_finds [] i rest h = ap To (sym (add-zero i))
+  lit_finds [] i rest h = ap Some (sym (add-zero i))
   lit_finds (b ∷ l) i rest h =
       let f = first_byte i b (l ++ rest) h in
       let t : byte_is b s i ≡ true = byte_found (λ x. eqb x b) i f.0 (eq-eqb _ _ f.1) in
       let n : i + 1 + length l ≡ i + length (b ∷ l) = omega arith in
-      rw (t, match_lit) (lit_finds l (i + 1) rest f.2 ∙ ap To n)
+      rw (t, match_lit) (lit_finds l (i + 1) rest f.2 ∙ ap Some n)
 
   -- Where they are found they stand.
-  lit_found : (l : Bytes) (i e : ℕ) → match_lit s l i ≡ To e → (drop i s ≡ l ++ drop e s) × (e ≡ i + length l)
+  lit_found : (l : Bytes) (i e : ℕ) → match_lit s l i ≡ Some e → (drop i s ≡ l ++ drop e s) × (e ≡ i + length l)
   unfolding match_lit
   lit_found [] i e q = let z : i ≡ e = cc in (ap (λ (k : ℕ). drop k s) z, sym z ∙ sym (add-zero i))
   lit_found (b ∷ l) i e q =
-      by_test (λ (m : Match). m ≡ To e → (drop i s ≡ b ∷ l ++ drop e s) × (e ≡ i + length (b ∷ l))) (byte_is b s i)
+      by_test (λ (m : Option ℕ). m ≡ Some e → (drop i s ≡ b ∷ l ++ drop e s) × (e ≡ i + length (b ∷ l))) (byte_is b s i)
       (λ t r. after_byte t (lit_found l (i + 1) e r)) (λ _ r. some_end r) q
     where
       after_byte : byte_is b s i ≡ true → (drop (i + 1) s ≡ l ++ drop e s) × (e ≡ i + 1 + length l) → (drop i s ≡ b ∷ l ++ drop e s) × (e ≡ i + length (b ∷ l))
@@ -194,15 +193,15 @@ module _ (s : Bytes) where
   pub word_right : (cs : List ℕ) → Scalars cs → (i : ℕ) → Right (At s (word cs) i) (match_lit s (encode_all cs) i)
   word_right cs sc i = right_single found finds
     where
-      found : (e : ℕ) → match_lit s (encode_all cs) i ≡ To e → At s (word cs) i e
+      found : (e : ℕ) → match_lit s (encode_all cs) i ≡ Some e → At s (word cs) i e
       found e q =
           let r = lit_found (encode_all cs) i e q in
           spell_word cs i e (subst (Spell s cs i) (sym r.1) (bytes_spell s cs i (drop e s) sc r.0))
 
-      finds : (e : ℕ) → At s (word cs) i e → match_lit s (encode_all cs) i ≡ To e
+      finds : (e : ℕ) → At s (word cs) i e → match_lit s (encode_all cs) i ≡ Some e
       finds e h =
           let b = spell_bytes s cs i e (word_spell cs i e h) in
-          lit_finds (encode_all cs) i (drop e s) b.1 ∙ ap To (sym b.2)
+          lit_finds (encode_all cs) i (drop e s) b.1 ∙ ap Some (sym b.2)
 
   -- It finds a word as it is spelled.
   pub text_right : (w : String) → all_plain (codes w) ≡ true → (i : ℕ) → Right (At s (text w) i) (match_lit s (cps w) i)
@@ -212,7 +211,7 @@ module _ (s : Bytes) where
   -- ---- runs
 
   -- `star` ends the longest run of characters that pass a test.
-  pub star_right : (p : ℕ → Bool) (i : ℕ) → Right (Chain (Step s p) i) (To (star p s i))
+  pub star_right : (p : ℕ → Bool) (i : ℕ) → Right (Chain (Step s p) i) (Some (star p s i))
   star_right p i = right_to (run i) (λ k h. reach h)
     where
       run : (i : ℕ) → Chain (Step s p) i (star p s i)

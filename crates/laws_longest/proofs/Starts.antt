@@ -1,6 +1,7 @@
 -- The first characters of an expression, computed of it, and what they decide: where no such character stands it leads nowhere, a test
 -- for one in front of a matcher changes nothing, and two expressions with no first character in common exclude each other.
 -- Rests on the language over offsets.
+use Rattle.std.specs.Prelude.{Option}
 use Prim.Native.Nat.{ℕ, ◌+◌, ◌≤◌, ◌<◌}
 use mathlib.Core.Path.{◌≡◌, refl, sym, subst, ◌∙◌}
 use mathlib.Core.Bool.{Bool, true, false, ◌&&◌, ◌||◌, false≢true}
@@ -17,7 +18,6 @@ use Rattle.definition.specs.Regex.{Re, eps, chr, seq, alt, many}
 use Rattle.definition.specs.Samples.{nullable}
 use Rattle.definition.specs.Matchers.{only}
 use Rattle.definition.specs.declared.Sequence.TheVariants.{Char}
-use Rattle.definition.specs.declared.Match.{Match}
 use Rattle.utf8.proofs.Character.{char_read, char_within}
 use Rattle.lemmas.proofs.Cases.{by_order}
 use Rattle.lemmas.proofs.Cases.{both, by_test}
@@ -177,7 +177,7 @@ module _ (s : Bytes) where
       d x.code x.passes (step_same x y).1
 
   -- A test in front that the first character passes changes nothing.
-  pub guard_at : (r : Re) (i : ℕ) {p : ℕ → Bool} {m : Match} → nullable r ≡ false
+  pub guard_at : (r : Re) (i : ℕ) {p : ℕ → Bool} {m : Option ℕ} → nullable r ≡ false
       → ((c w : ℕ) → sequence_at s i ≡ Char c w → starts r c ≡ true → p c ≡ true) → Right (At s r i) m → Right (At s r i) (only (char_has p s i) m)
   guard_at r i {p} n f h = right_only (char_has p s i) has (λ _. h)
     where
@@ -187,7 +187,7 @@ module _ (s : Bytes) where
           step_has {e = i + t.width} (record { code = t.code; width = t.width; read = t.read; ends = refl; passes = f t.code t.width t.read t.passes })
 
   -- The same of one that every first character passes.
-  pub guard : (r : Re) (i : ℕ) {p : ℕ → Bool} {m : Match} → nullable r ≡ false → ((c : ℕ) → starts r c ≡ true → p c ≡ true)
+  pub guard : (r : Re) (i : ℕ) {p : ℕ → Bool} {m : Option ℕ} → nullable r ≡ false → ((c : ℕ) → starts r c ≡ true → p c ≡ true)
       → Right (At s r i) m → Right (At s r i) (only (char_has p s i) m)
   guard r i n f h = guard_at r i n (λ c w q t. f c t) h
 

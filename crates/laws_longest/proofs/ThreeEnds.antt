@@ -1,5 +1,6 @@
 -- Of the seven ends after which a number may go on as an identifier three are enough: the longest integer, the shortest part up to a
 -- point, and the shortest with an exponent. Rests on the laws of bad numbers.
+use Rattle.std.specs.Prelude.{Option, Some, None}
 use Prim.Native.Nat.{ℕ}
 use mathlib.Core.Path.{◌≡◌, refl, ap, subst}
 use mathlib.Core.Bool.{true, false}
@@ -11,8 +12,6 @@ use Rattle.definition.specs.Matchers.{◌then◌, later, plus, match_integer, ma
 use Rattle.definition.specs.Samples.{nullable}
 use Rattle.definition.specs.Regex.{Re, chr, seq, alt}
 use Rattle.definition.specs.Patterns.{integer, xinteger, xieee64}
-use Rattle.definition.specs.declared.Match.{Match}
-use Rattle.definition.specs.declared.Match.TheVariants.{To, Nothing}
 use Rattle.lemmas.proofs.Cases.{either}
 use Rattle.lemmas.proofs.Each.{none_left, ◌⨾◌}
 use Rattle.laws_progress.proofs.Ends.{Ends as Each_end, ends_then, ends_later, ends_max}
@@ -27,20 +26,20 @@ use Rattle.laws_longest.proofs.Floats.{pointed, scientific, match_pointed, match
 use Rattle.laws_longest.proofs.BadNumbers.{Within, xinteger_within, xieee64_within, letters, reaches_later, right_end, by_integer, by_point, by_exponent, short_reaches, run_found, zero_first}
 
 -- Two answers that reach each other are one.
-same_reach : (m n : Match) → Each_end (λ k. Reaches k n) m → Each_end (λ k. Reaches k m) n → m ≡ n
-same_reach Nothing Nothing f g = refl
-same_reach Nothing (To b) f g = some_end (g.at refl).1
-same_reach (To a) Nothing f g = some_end (f.at refl).1
-same_reach (To a) (To b) f g =
+same_reach : (m n : Option ℕ) → Each_end (λ k. Reaches k n) m → Each_end (λ k. Reaches k m) n → m ≡ n
+same_reach None None f g = refl
+same_reach None (Some b) f g = some_end (g.at refl).1
+same_reach (Some a) None f g = some_end (f.at refl).1
+same_reach (Some a) (Some b) f g =
     let x = f.at refl in
     let y = g.at refl in
     let p : b ≡ x.0 = cc x.1 in
     let q : a ≡ y.0 = cc y.1 in
     let same : a ≡ b = omega (arith, x.2, y.2) in
-    ap To same
+    ap Some same
 
 -- An answer is reached by what each end that it has reaches.
-reached_by : {P : ℕ → Type 0} {m : Match} → ((k : ℕ) → Reaches k m → P k) → Each_end P m
+reached_by : {P : ℕ → Type 0} {m : Option ℕ} → ((k : ℕ) → Reaches k m → P k) → Each_end P m
 reached_by f = record { at = λ {e} q. f e (e, q, omega arith) }
 
 -- What stands after the 0 of an integer with a letter.
@@ -56,11 +55,11 @@ letter_first c =
 
 module _ (s f : Bytes) (i : ℕ) where
   -- The identifier characters after an end.
-  abbrev wrong : Match → Match
+  abbrev wrong : Option ℕ → Option ℕ
   wrong m = m then plus (is_ident_char f) s
 
   -- The latest of the three.
-  abbrev three : Match
+  abbrev three : Option ℕ
   three = later (wrong (match_integer s i)) (later (wrong (match_pointed s i)) (wrong (match_short s i)))
 
   -- What is reached after the integer the three reach.
@@ -88,7 +87,7 @@ module _ (s f : Bytes) (i : ℕ) where
       at_integer k (⊎_elim (λ h. h) (λ (e, t, l). absurd (not_two n e x t)) (run_found s f i r w z d.0 m k d.1 a b))
 
   -- Where a matcher's ends are parts of a number, the three reach what goes on after them.
-  letters_after : {P : ℕ → Type 0} {m : Match} → Each_end P m → ((n k : ℕ) → P n → At s (letters f) n k → Reaches k three) → Each_end (λ k. Reaches k three) (wrong m)
+  letters_after : {P : ℕ → Type 0} {m : Option ℕ} → Each_end P m → ((n k : ℕ) → P n → At s (letters f) n k → Reaches k three) → Each_end (λ k. Reaches k three) (wrong m)
   letters_after h g = ends_then h (λ n p. right_end (plus_right s (is_ident_char f) n) (λ k. g n k p))
 
   -- The three reach all that the seven do.

@@ -1,5 +1,6 @@
 -- What `select` chooses ends within the text and on a character, and after its start unless it is none of the places.
 -- Rests on the laws of the matchers and of words.
+use Rattle.std.specs.Prelude.{Option, Some, None}
 use Prim.Native.Nat.{ℕ, suc, ◌+◌, ◌<◌}
 use Prim.Native.Char.{Char as Letter}
 use Prim.Native.String.{String}
@@ -15,8 +16,6 @@ use Rattle.definition.specs.Tables.{cps, early_literals, kw_op_rules, op_tokens,
 use Rattle.definition.specs.Matchers.{◌then◌, only, match_lit, plus, match_int_suffix, match_int_usuffix}
 use Rattle.definition.specs.Select.{none_at, keep, found, try_words, try_all, one_of_then_symbols, lit_then_symbols, places, select}
 use Rattle.definition.specs.declared.Choice.{Choice}
-use Rattle.definition.specs.declared.Match.{Match}
-use Rattle.definition.specs.declared.Match.TheVariants.{To, Nothing}
 use Rattle.lemmas.proofs.Cases.{by_test, by_if, both}
 use Rattle.lemmas.proofs.Each.{Each, none_left, ◌⨾◌}
 use Rattle.laws_progress.proofs.Walks.{Clean, clean_walk, Onward, onward_walk, onward_onward, char_onward_one, star_walks, Passes}
@@ -60,12 +59,12 @@ module _ (s : Bytes) (i : ℕ) where
   none_fits = record { chosen = λ e. absurd (false≢true (sym e)) }
 
   -- what a matcher finds for a place
-  found_fits : (k w : ℕ) (m : Match) → Ends (Chosen s i k) m → Fits s i (found i k w m)
-  found_fits k w (To e) h = record { chosen = λ _. h.at refl }
-  found_fits k w Nothing h = none_fits
+  found_fits : (k w : ℕ) (m : Option ℕ) → Ends (Chosen s i k) m → Fits s i (found i k w m)
+  found_fits k w (Some e) h = record { chosen = λ _. h.at refl }
+  found_fits k w None h = none_fits
 
   -- the same for a place that has no keyword operators
-  place_fits : (k : ℕ) {m : Match} → eqb k kw_op_place ≡ false → Ends (Onward s i) m → Fits s i (found i k 0 m)
+  place_fits : (k : ℕ) {m : Option ℕ} → eqb k kw_op_place ≡ false → Ends (Onward s i) m → Fits s i (found i k 0 m)
   place_fits k {m} q h = found_fits k 0 m (ends_map (λ e o. record { onward = o; no_slash = λ t. absurd (false≢true (sym q ∙ t)) }) h)
 
   -- the better of two choices
@@ -74,7 +73,7 @@ module _ (s : Bytes) (i : ℕ) where
   keep_fits {best} {new} f g = by_if (Fits s i) (ltb best.end new.end) (λ _. g) (λ _. f)
 
   -- the best of all words of a table that begin with a character that passes a test
-  words_fit : (k : ℕ) (p : ℕ → Bool) (m : Bytes → Match) → ((x : String) → begins_with p (codes x) ≡ true → Ends (Chosen s i k) (m (cps x)))
+  words_fit : (k : ℕ) (p : ℕ → Bool) (m : Bytes → Option ℕ) → ((x : String) → begins_with p (codes x) ≡ true → Ends (Chosen s i k) (m (cps x)))
       → (w : ℕ) (es : List String) → table_begins p es ≡ true → {best : Choice} → Fits s i best → Fits s i (try_words i k m w es best)
   unfolding try_words
   words_fit k p m h w [] t f = f
@@ -108,7 +107,7 @@ module _ (s : Bytes) (i : ℕ) where
       0 kw_op_words refl none_fits
 
   -- a place with a test in front
-  when_fits : (k : ℕ) {m : Match} (t : Bool) → eqb k kw_op_place ≡ false → (t ≡ true → Ends (Onward s i) m) → Fits s i (found i k 0 (only t m))
+  when_fits : (k : ℕ) {m : Option ℕ} (t : Bool) → eqb k kw_op_place ≡ false → (t ≡ true → Ends (Onward s i) m) → Fits s i (found i k 0 (only t m))
   when_fits k t q h = place_fits k q (ends_only t h)
 
   -- a place that has a word of a character or more

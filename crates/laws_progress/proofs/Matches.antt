@@ -1,5 +1,6 @@
 -- Each matcher's end is after its start, within the text, and on a character again. Rests on the laws of walks and on
 -- those of matchers put together.
+use Rattle.std.specs.Prelude.{Option, Some, None}
 use Prim.Native.Nat.{ℕ, ◌+◌, ◌<◌}
 use Prim.Native.Char.{Char as Letter}
 use mathlib.Core.Path.{◌≡◌, refl, subst}
@@ -42,8 +43,6 @@ use Rattle.definition.specs.Matchers.{
 }
 use Rattle.definition.specs.declared.Sequence.{Sequence}
 use Rattle.definition.specs.declared.Sequence.TheVariants.{Char, Bad, End}
-use Rattle.definition.specs.declared.Match.{Match}
-use Rattle.definition.specs.declared.Match.TheVariants.{To, Nothing}
 use Rattle.lemmas.proofs.Cases.{by_test, by_if, by_match, both, between_true, either}
 use Rattle.lemmas.proofs.Loops.{Leads, leads_map, loop_keeps}
 use Rattle.laws_progress.proofs.Walks.{
@@ -114,7 +113,7 @@ module _ (s : Bytes) where
   unfolding one
   one_ends p i = go (sequence_at s i) refl
     where
-      go : (q : Sequence) → sequence_at s i ≡ q → Ends (Onward s i) (with_char q i (λ c j. elim (p c) [ true ↦ To j | false ↦ Nothing ]) Nothing)
+      go : (q : Sequence) → sequence_at s i ≡ q → Ends (Onward s i) (with_char q i (λ c j. elim (p c) [ true ↦ Some j | false ↦ None ]) None)
       go (Char c w) q = by_test (Ends (Onward s i)) (p c) (λ _. ends_to (char_onward q)) (λ _. ends_nothing)
       go Bad q = ends_nothing
       go End q = ends_nothing
@@ -130,11 +129,11 @@ module _ (s : Bytes) where
       subst (Onward s i) r (onward_onward o (byte_onward p s (i + k) small e))
 
   -- a matcher and then a run
-  pub then_star : (p : ℕ → Bool) {i : ℕ} {m : Match} → Ends (Onward s i) m → Ends (Onward s i) (m then λ j. To (star p s j))
+  pub then_star : (p : ℕ → Bool) {i : ℕ} {m : Option ℕ} → Ends (Onward s i) m → Ends (Onward s i) (m then λ j. Some (star p s j))
   then_star p h = ends_then h (λ j o. ends_to (onward_walk o (star_walks p s j)))
 
   -- what is found after a walk is found from its start
-  pub after_walk : {i j : ℕ} {m : Match} → Walk s i j → Ends (Onward s j) m → Ends (Onward s i) m
+  pub after_walk : {i j : ℕ} {m : Option ℕ} → Walk s i j → Ends (Onward s j) m → Ends (Onward s i) m
   after_walk u h = ends_map (λ e o. walk_onward u o) h
 
   -- ---- the source's matchers
@@ -190,7 +189,7 @@ module _ (s : Bytes) where
   char_ends i = go (sequence_at s i) refl
     where
       go : (q : Sequence) → sequence_at s i ≡ q
-          → Ends (Onward s i) (with_char q i (λ c j. elim (eqb c (ch "\\")) [ true ↦ match_escape s i | false ↦ To j ]) Nothing)
+          → Ends (Onward s i) (with_char q i (λ c j. elim (eqb c (ch "\\")) [ true ↦ match_escape s i | false ↦ Some j ]) None)
       go (Char c w) q = by_test (Ends (Onward s i)) (eqb c (ch "\\")) (λ _. escape_ends i) (λ _. ends_to (char_onward q))
       go Bad q = ends_nothing
       go End q = ends_nothing
@@ -299,10 +298,10 @@ module _ (s : Bytes) where
       ⨾ ends_later (ends_then (integer_ends i) (λ j o. exp o)) (ends_then dot (λ j o. exp (onward_walk o (star_walks is_digit s j))))
       ⨾ none_left))
     where
-      dot : Ends (Onward s i) (match_integer s i then λ j. only (byte_is (ch ".") s j) (To (j + 1)))
+      dot : Ends (Onward s i) (match_integer s i then λ j. only (byte_is (ch ".") s j) (Some (j + 1)))
       dot = ends_then (integer_ends i) λ j o. ends_only (byte_is (ch ".") s j) λ t. ends_to (onward_onward o (byte_is_onward (ch ".") j (omega arith) t))
 
-      exp : {k : ℕ} → Onward s i k → Ends (Onward s i) (only (byte_has is_e s k) (only (byte_has is_digit s (skip_sign s (k + 1))) (To (skip_sign s (k + 1) + 1))))
+      exp : {k : ℕ} → Onward s i k → Ends (Onward s i) (only (byte_has is_e s k) (only (byte_has is_digit s (skip_sign s (k + 1))) (Some (skip_sign s (k + 1) + 1))))
       exp {k} o = ends_only (byte_has is_e s k) λ t. ends_only (byte_has is_digit s (skip_sign s (k + 1))) λ d.
           ends_to (onward_onward (onward_onward o (exponent_walks k t)) (byte_onward is_digit s _ small_digit d))
 
@@ -316,7 +315,7 @@ module _ (s : Bytes) where
   pub backtick_leads : (j n : ℕ) → Leads (λ b. Onward s j b.0) (Ends (Onward s j)) (backtick_turn s (j, n))
   backtick_leads j n =
       let ok : ℕ → Bool = λ c. not (eqb c (ch "`")) && not (is_newline_char c) in
-      let L : Turn (ℕ × ℕ) Match → Type 0 = Leads (λ b. Onward s j b.0) (Ends (Onward s j)) in
+      let L : Turn (ℕ × ℕ) (Option ℕ) → Type 0 = Leads (λ b. Onward s j b.0) (Ends (Onward s j)) in
       by_match L (one ok s j) (λ k q. (one_ends ok j).at q) λ _.
       by_match L (only (byte_is (ch "`") s j) (one ok s (j + 1)))
       (λ k q. (ends_only (byte_is (ch "`") s j) (λ t. after_walk (byte_is_onward (ch "`") j (omega arith) t).walk (one_ends ok (j + 1)))).at q) λ _.
@@ -330,6 +329,6 @@ module _ (s : Bytes) where
   backtick_ends i = ends_only (two_ticks i) λ t.
       let h = both _ _ t in
       let o = byte_more (small_is (ch "`") (omega arith)) i 1 2 refl (byte_is_onward (ch "`") i (omega arith) h.0) h.1 in
-      loop_keeps (backtick_turn s) (λ a. Onward s i a.0) (Ends (Onward s i)) (λ a. Nothing)
+      loop_keeps (backtick_turn s) (λ a. Onward s i a.0) (Ends (Onward s i)) (λ a. None)
       (λ a p. leads_map (λ b r. onward_onward p r) (λ m r. ends_map (λ e q. onward_onward p q) r) (backtick_turn s a) (backtick_leads a.0 a.1))
       (λ a p. ends_nothing) (fuel s) (i + 2, 0) o

@@ -1,5 +1,6 @@
 -- The loops over characters, bytes and digits move on and have fuel enough: for each, what a turn does, that more fuel or
 -- another `out` changes nothing, and that it is what its first turn says. Rests on the laws of loops, walks and matchers.
+use Rattle.std.specs.Prelude.{Option, None}
 use Prim.Native.Nat.{ℕ, suc, ◌+◌, ◌-◌, ◌≤◌, ◌<◌}
 use mathlib.Core.Path.{◌≡◌, refl, sym, subst, ◌∙◌}
 use mathlib.Core.Bool.{Bool, true, ◌&&◌}
@@ -13,8 +14,6 @@ use Rattle.definition.specs.Matchers.{only, backtick_turn, match_backtick_ident,
 use Rattle.definition.specs.Numbers.{show_turn, show}
 use Rattle.definition.specs.declared.Sequence.{Sequence}
 use Rattle.definition.specs.declared.Sequence.TheVariants.{Char, Bad, End}
-use Rattle.definition.specs.declared.Match.{Match}
-use Rattle.definition.specs.declared.Match.TheVariants.{Nothing}
 use Rattle.lemmas.proofs.Loops.{says, Leads, leads_map, Falls, Any, loop_same, loop_unroll, loop_unroll_by}
 use Rattle.lemmas.proofs.Cases.{by_test, by_lt, by_le, both}
 use Rattle.utf8.proofs.Star.{star_unroll}
@@ -57,22 +56,22 @@ module _ (s : Bytes) where
 -- ---- names in backticks
 
 -- the loop of `match_backtick_ident`, with n parts read before j
-unfoldable pub backtick_from : Bytes → ℕ × ℕ → Match
-backtick_from s a = loop (backtick_turn s) (λ a. Nothing) (fuel s) a
+unfoldable pub backtick_from : Bytes → ℕ × ℕ → Option ℕ
+backtick_from s a = loop (backtick_turn s) (λ a. None) (fuel s) a
 
 -- a turn moves on by a character or two
 pub backtick_falls : (s : Bytes) → Falls (backtick_turn s) Any (λ a. rest s a.0) Any
 backtick_falls s = record { at = λ a _. leads_map (λ b o. (tt, omega arith)) (λ r _. tt) (backtick_turn s a) (backtick_leads s a.0 a.1) }
 
 -- more fuel and another `out` change nothing
-pub backtick_enough : (s : Bytes) (out : ℕ × ℕ → Match) (n : ℕ) (a : ℕ × ℕ) → rest s a.0 < n → loop (backtick_turn s) out n a ≡ backtick_from s a
+pub backtick_enough : (s : Bytes) (out : ℕ × ℕ → Option ℕ) (n : ℕ) (a : ℕ × ℕ) → rest s a.0 < n → loop (backtick_turn s) out n a ≡ backtick_from s a
 unfolding backtick_from
-backtick_enough s out n a h = loop_same (backtick_falls s) out (λ a. Nothing) n (fuel s) a tt h (omega arith)
+backtick_enough s out n a h = loop_same (backtick_falls s) out (λ a. None) n (fuel s) a tt h (omega arith)
 
 -- the loop is what its first turn says
 pub backtick_unroll : (s : Bytes) (a : ℕ × ℕ) → backtick_from s a ≡ says (backtick_turn s a) (backtick_from s)
 unfolding backtick_from
-backtick_unroll s a = loop_unroll (backtick_falls s) (λ a. Nothing) (fuel s) a tt (omega arith)
+backtick_unroll s a = loop_unroll (backtick_falls s) (λ a. None) (fuel s) a tt (omega arith)
 
 -- what `match_backtick_ident` is, by its loop
 pub backtick_is : (s : Bytes) (i : ℕ) → match_backtick_ident s i ≡ only (byte_is (ch "`") s i && byte_is (ch "`") s (i + 1)) (backtick_from s (i + 2, 0))

@@ -1,12 +1,12 @@
 -- The one walk over the rules: what each does with a choice is skipped, or gives an item of a form that is known (Forms). Rests on the
 -- forms of what the readers give, and on what `no_comment` leaves (crate `laws_progress`).
+use Rattle.std.specs.Prelude.{Option, Some, None}
 use Prim.Native.Nat.{ℕ, ◌+◌, ◌-◌, ◌≤◌}
 use Prim.Native.String.{String}
 use mathlib.Core.Path.{◌≡◌, refl}
 use mathlib.Core.Bool.{true, not}
 use mathlib.Core.List.{List, [], ◌∷◌, ◌++◌}
 use mathlib.Core.Logic.{inl, inr}
-use mathlib.Core.Option.{Option, none, some}
 use native.Mathlib.Omega.{arith}
 use lib.Dec.{eqb}
 use lib.ListN.{length, length-append}
@@ -104,9 +104,9 @@ module _ (s name : Bytes) (U : Type 0) (st : State) where
     word_says table k small = go (find (lexeme s i e) table) refl
       where
         go : (x : Option Entry) → find (lexeme s i e) table ≡ x
-            → Says s name U st (elim x [ some y ↦ finish_entry s st e y | none ↦ finish s st e (kind k) (lexeme s i e) ])
-        go (some y) q = short_up_to (kind y.kind) (cps y.text) o (omega (arith, find_small (lexeme s i e) table y small q))
-        go none q = part_up_to (kind k) i e (omega arith) (omega arith)
+            → Says s name U st (elim x [ Some y ↦ finish_entry s st e y | None ↦ finish s st e (kind k) (lexeme s i e) ])
+        go (Some y) q = short_up_to (kind y.kind) (cps y.text) o (omega (arith, find_small (lexeme s i e) table y small q))
+        go None q = part_up_to (kind k) i e (omega arith) (omega arith)
 
     -- an error at st without a payload, of the range up to e
     error_says : (n : ℕ) → (n ≡ 6 → ⊥) → Form s name U st (lex_error s st n [] (cur_pos s st) (pos_of s st e))

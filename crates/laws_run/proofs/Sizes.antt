@@ -1,10 +1,10 @@
 -- How long the bytes are that payloads are made of: parts of the text, texts of tables, cleaned numbers, numbers in decimal, and trimmed
 -- comments. Rests on the laws of decimal numbers (crate `number_value`).
+use Rattle.std.specs.Prelude.{Option, Some}
 use Prim.Native.Nat.{ℕ, zero, suc, ◌+◌, ◌-◌, ◌*◌, ◌/◌, ◌%◌, ◌≤◌, ◌<◌}
 use mathlib.Core.Path.{◌≡◌, refl, ap, subst}
 use mathlib.Core.Bool.{Bool, true, ◌&&◌}
 use mathlib.Core.List.{List, [], ◌∷◌, map}
-use mathlib.Core.Option.{Option, some}
 use native.Mathlib.Omega.{arith}
 use lib.Dec.{leb, eqb}
 use lib.ListN.{length, drop, length-append, length-drop, length-take}
@@ -36,12 +36,12 @@ texts_small [] = true
 texts_small (e ∷ es) = leb (length (cps e.text)) 100 && texts_small es
 
 -- the text of an entry that is found
-pub find_small : (id : Bytes) (table : List Entry) (y : Entry) → texts_small table ≡ true → find id table ≡ some y → length (cps y.text) ≤ 100
+pub find_small : (id : Bytes) (table : List Entry) (y : Entry) → texts_small table ≡ true → find id table ≡ Some y → length (cps y.text) ≤ 100
 unfolding find
 find_small id [] y t q = absurd (let z : ◌≡◌ {A = ℕ} 0 1 = cc in omega arith)
 find_small id (e ∷ es) y t q =
     let b = both (leb (length (cps e.text)) 100) (texts_small es) t in
-    by_test (λ (x : Option Entry). x ≡ some y → length (cps y.text) ≤ 100) (same (cps e.word) id)
+    by_test (λ (x : Option Entry). x ≡ Some y → length (cps y.text) ≤ 100) (same (cps e.word) id)
     (λ _ r. let z : e ≡ y = cc in subst (λ (x : Entry). length (cps x.text) ≤ 100) z (leb-true _ _ b.0))
     (λ _. find_small id es y b.1) q
 

@@ -1,5 +1,6 @@
 -- Strings: one walk over a turn of `string_lit`, in which the state goes on by a path. From it that its fuel never runs out, and which form
 -- its item has. Rests on paths and forms, and on the ends of matchers and runs (crate `laws_progress`).
+use Rattle.std.specs.Prelude.{Option, Some, None}
 use Prim.Native.Nat.{ℕ, ◌+◌, ◌-◌, ◌*◌, ◌≤◌, ◌<◌}
 use mathlib.Core.Path.{◌≡◌, refl, ap, subst, ◌∙◌}
 use mathlib.Core.Bool.{Bool, true, false, not, ◌&&◌, ◌||◌}
@@ -22,8 +23,6 @@ use Rattle.definition.specs.Strings.{string_stop, match_low_half, escape_turn, s
 use Rattle.definition.specs.declared.Pos.{Pos}
 use Rattle.definition.specs.declared.State.{State}
 use Rattle.definition.specs.declared.Extra.TheVariants.{NoExtra}
-use Rattle.definition.specs.declared.Match.{Match}
-use Rattle.definition.specs.declared.Match.TheVariants.{To, Nothing}
 use Rattle.definition.specs.declared.Sequence.TheVariants.{Char}
 use Rattle.lemmas.proofs.Loops.{says, Leads, leads_map, Falls, Any, loop_keeps, loop_same, loop_unroll}
 use Rattle.lemmas.proofs.Cases.{by_test, by_lt, by_le, by_match, either}
@@ -42,22 +41,22 @@ use Rattle.laws_run.proofs.Forms.{Form, token, error, nothing}
 
 module _ (s : Bytes) where
   -- a character that passes a test is found
-  one_found : (p : ℕ → Bool) (i c w : ℕ) → sequence_at s i ≡ Char c w → p c ≡ true → one p s i ≡ To (i + w)
+  one_found : (p : ℕ → Bool) (i c w : ℕ) → sequence_at s i ≡ Char c w → p c ≡ true → one p s i ≡ Some (i + w)
   unfolding one
   one_found p i c w q t =
-      ap (λ r. with_char r i (λ c j. elim (p c) as (λ _. Match) [ true ↦ To j | false ↦ Nothing ]) Nothing) q
-      ∙ ap (λ b. elim b as (λ _. Match) [ true ↦ To (i + w) | false ↦ Nothing ]) t
+      ap (λ r. with_char r i (λ c j. elim (p c) as (λ _. Option ℕ) [ true ↦ Some j | false ↦ None ]) None) q
+      ∙ ap (λ b. elim b as (λ _. Option ℕ) [ true ↦ Some (i + w) | false ↦ None ]) t
 
   -- where a newline stands, one is found
-  newline_found : (i c w : ℕ) → sequence_at s i ≡ Char c w → is_newline_char c ≡ true → match_newline s i ≡ Nothing → ⊥
+  newline_found : (i c w : ℕ) → sequence_at s i ≡ Char c w → is_newline_char c ≡ true → match_newline s i ≡ None → ⊥
   unfolding match_newline
   newline_found i c w q n =
-      by_test (λ m. m ≡ Nothing → ⊥) (char_has (λ c. eqb c (ch "\r")) s i && byte_is (ch "\n") s (i + 1))
+      by_test (λ m. m ≡ None → ⊥) (char_has (λ c. eqb c (ch "\r")) s i && byte_is (ch "\n") s (i + 1))
       (λ _ e. let z : ◌≡◌ {A = ℕ} 0 1 = cc in omega arith)
       (λ _ e. let o = one_found is_newline_char i c w q n in let z : ◌≡◌ {A = ℕ} 0 1 = cc in omega arith)
 
   -- a byte at which a string neither goes on nor ends is a character: it can only be a backslash
-  lone_clean : (i : ℕ) → run_end string_stop s i ≤ i → match_newline s i ≡ Nothing → i < length s → Clean s i → Clean s (i + 1)
+  lone_clean : (i : ℕ) → run_end string_stop s i ≤ i → match_newline s i ≡ None → i < length s → Clean s i → Clean s (i + 1)
   unfolding string_stop
   lone_clean i h n k c = go (string_stop x) refl
     where

@@ -1,14 +1,12 @@
 -- By cases on the test or on the match that a definition goes by, keeping what the case says, tests decided by what is known of
 -- their numbers, and what a test that passes says of them. Rests on the tests' own laws, `borrow.Author.Tests`.
-use Rattle.std.specs.Prelude.{if◌then◌else◌}
+use Rattle.std.specs.Prelude.{if◌then◌else◌, Option, Some, None}
 use Prim.Native.Nat.{ℕ, ◌≤◌, ◌<◌}
 use mathlib.Core.Path.{◌≡◌, refl, sym, ap, ◌∙◌}
 use mathlib.Core.Bool.{Bool, true, false, not, ◌&&◌, ◌||◌, false≢true}
 use lib.Dec.{ltb, leb, eqb}
 use borrow.Author.Tests.{lt-ltb, le-ltb, le-leb, lt-leb, eq-eqb, ne_eqb, ltb-true, ltb-false, leb-true, leb-false, eqb-true, eqb-false}
 use Rattle.definition.specs.Basics.{between}
-use Rattle.definition.specs.declared.Match.{Match}
-use Rattle.definition.specs.declared.Match.TheVariants.{To, Nothing}
 
 -- for `simp` and `search`: a test for less is decided by what is known of its numbers
 pub ruleset tests = (lt-ltb, le-ltb)
@@ -63,14 +61,14 @@ module _ {X : Type 0} (P : X → Type 0) where
   by_if_lt a b f g = by_if (ltb a b) (λ e. f (ltb-true a b e)) (λ e. g (ltb-false a b e))
 
   -- by what a matcher found
-  pub by_match : (m : Match) {x : ℕ → X} {y : X} → ((e : ℕ) → m ≡ To e → P (x e)) → (m ≡ Nothing → P y) → P (elim m [ To e ↦ x e | Nothing ↦ y ])
-  by_match (To e) f g = f e refl
-  by_match Nothing f g = g refl
+  pub by_match : (m : Option ℕ) {x : ℕ → X} {y : X} → ((e : ℕ) → m ≡ Some e → P (x e)) → (m ≡ None → P y) → P (elim m [ Some e ↦ x e | None ↦ y ])
+  by_match (Some e) f g = f e refl
+  by_match None f g = g refl
 
 -- what a matcher found, or that it found nothing
-pub by_found : {X : Type 0} (m : Match) → ((e : ℕ) → m ≡ To e → X) → (m ≡ Nothing → X) → X
-by_found (To e) on off = on e refl
-by_found Nothing on off = off refl
+pub by_found : {X : Type 0} (m : Option ℕ) → ((e : ℕ) → m ≡ Some e → X) → (m ≡ None → X) → X
+by_found (Some e) on off = on e refl
+by_found None on off = off refl
 
 -- both tests of a conjunction pass
 pub both : (a b : Bool) → a && b ≡ true → (a ≡ true) × (b ≡ true)

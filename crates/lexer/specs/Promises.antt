@@ -3,11 +3,11 @@
 -- s is the text, name the file's name, f the class file, st the saved state, rs and ps the buffers lent for records and for payload, all as
 -- the run is given them. o is the run's outcome: its answer r, and both buffers as it leaves them.
 use Rattle.std.specs.Prelude.{◌≡◌, List, ◌⊎◌, ℕ}
+use Rattle.definition.specs.Answers.{RunAnswer}
 use Rattle.definition.specs.Basics.{Bytes}
 use Rattle.definition.specs.Run.{Outcome, run}
 use Rattle.definition.specs.Reading.{EveryReading}
 use Rattle.definition.specs.declared.State.{State}
-use Rattle.definition.specs.declared.RunAnswer.{RunAnswer}
 use Rattle.laws_run.specs.Written.{Done}
 use Rattle.laws_coverage.specs.Coverage.{NothingLost}
 
@@ -39,7 +39,7 @@ AsDefined s name f st rs ps o = o ≡ run s name f st rs ps
 -- document 02's K4 adds to it, of a run that isn't refused: "no byte can vanish". From st on, if the reading hasn't ended there, up to the
 -- text's end or to the first byte of the choice that failed, each byte is counted once: in the span of an item that runs from st write, or
 -- in what is skipped before one. It is said by `NothingLost` (crates/laws_coverage/specs/Coverage.antt)
-abbrev pub NoByteVanishes : Bytes → Bytes → Bytes → State → RunAnswer → Type 0
+abbrev pub NoByteVanishes : Bytes → Bytes → Bytes → State → RunAnswer State → Type 0
 NoByteVanishes s name f st r = r.refusal ≡ 0 → NothingLost s name f st
 
 -- ---- demand 3: "At every reading position" of a run that isn't refused "the choice is the longest part that any rule's pattern permits,
@@ -47,5 +47,5 @@ NoByteVanishes s name f st r = r.refusal ≡ 0 → NothingLost s name f st
 -- choice that is no error moves on"
 
 -- what a reading position is, and what holds there, says `EveryReading` (crates/definition/specs/Reading.antt)
-abbrev pub LongestEverywhere : Bytes → Bytes → Bytes → State → RunAnswer → Type 0
+abbrev pub LongestEverywhere : Bytes → Bytes → Bytes → State → RunAnswer State → Type 0
 LongestEverywhere s name f st r = r.refusal ≡ 0 → EveryReading s name f st

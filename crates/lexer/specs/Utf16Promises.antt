@@ -3,12 +3,12 @@
 -- s is the text, name the file's name, f the class file, g the saved state, rs and ps the buffers lent for records and for payload, all as
 -- the run is given them. o is the run's outcome: its answer r, and both buffers as it leaves them.
 use Rattle.std.specs.Prelude.{◌≡◌, List, ◌⊎◌, ℕ}
+use Rattle.definition.specs.Answers.{RunAnswer}
 use Rattle.definition.specs.Basics.{Bytes}
 use Rattle.definition.specs.Run.{run}
 use Rattle.definition.specs.Reading.{EveryReading}
 use Rattle.definition.specs.Utf16.{Utf16Outcome, utf16_run}
 use Rattle.definition.specs.declared.Utf16State.{Utf16State}
-use Rattle.definition.specs.declared.Utf16RunAnswer.{Utf16RunAnswer}
 use Rattle.laws_utf16.specs.Same.{SameItems}
 use Rattle.laws_utf16.specs.Written.{Utf16Done}
 use Rattle.laws_coverage.specs.Coverage.{NothingLost}
@@ -41,10 +41,10 @@ abbrev pub SameAsFirst : Bytes → Bytes → Bytes → Utf16State → List ℕ �
 SameAsFirst s name f g rs ps o = o.0.refusal ≡ 0 → SameItems s name f g (run s name f g.first rs ps) o
 
 -- K4: "no byte can vanish" (crates/laws_coverage/specs/Coverage.antt). It speaks of offsets alone, which are the first run's
-abbrev pub NoByteVanishes : Bytes → Bytes → Bytes → Utf16State → Utf16RunAnswer → Type 0
+abbrev pub NoByteVanishes : Bytes → Bytes → Bytes → Utf16State → RunAnswer Utf16State → Type 0
 NoByteVanishes s name f g r = r.refusal ≡ 0 → NothingLost s name f g.first
 
 -- ---- demand 3: at every reading position the choice is the longest and moves on (crates/definition/specs/Reading.antt)
 
-abbrev pub LongestEverywhere : Bytes → Bytes → Bytes → Utf16State → Utf16RunAnswer → Type 0
+abbrev pub LongestEverywhere : Bytes → Bytes → Bytes → Utf16State → RunAnswer Utf16State → Type 0
 LongestEverywhere s name f g r = r.refusal ≡ 0 → EveryReading s name f g.first

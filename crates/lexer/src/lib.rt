@@ -10,14 +10,16 @@
 pub mod utf16; // utf16.rt: the second run, with an editor's positions: lines from 0, columns in UTF-16 units
 
 ghost use Rattle.std.specs.Prelude.{◌≡◌};
-ghost use Rattle.definition.specs.State.{start};
+ghost use Rattle.definition.specs.Answers.{start_said, check_said, ran_said, run_said};
+ghost use Rattle.definition.specs.State.{start, nine_zeros};
 ghost use Rattle.definition.specs.ClassFile.{class_check};
 ghost use Rattle.definition.specs.Run.{run_items};
 ghost use Rattle.laws_run.specs.Accepted.{Accepted};
 ghost use Rattle.lexer.specs.Promises.{RefusedOrCounted, AsDefined, NoByteVanishes, LongestEverywhere};
 
 use chars::ascii::{op_char_table, symbolchar_table};
-use definition::{RunAnswer, StartAnswer, State};
+use definition::State;
+use definition::answers::{ClassRefusal, Ran, RunRefusal, StartRefusal};
 use fast_path::write_tokens;
 use position::Cache;
 use reader::Cursor;
@@ -25,15 +27,15 @@ use refusal::refusal;
 use run_turn::{TurnResult, turn};
 
 // Document 01's start: the state at the beginning of a text, at a line and a column.
-pub fn start(line: u32, column: u32) -> StartAnswer
-    ensures { result ≡ start line column }
+pub fn start(line: u32, column: u32) -> Result<State, StartRefusal>
+    ensures { start_said nine_zeros result ≡ start line column }
 {
     state::start(line, column)
 }
 
-// Document 01's class check: a refusal number, or 0 for a class file that a run takes.
-pub fn class_check(file: &[u8]) -> u32
-    ensures { result ≡ class_check file.now }
+// Document 01's class check: whether a run takes the class file, or why not.
+pub fn class_check(file: &[u8]) -> Result<(), ClassRefusal>
+    ensures { check_said result ≡ class_check file.now }
 {
     class_file::check::class_check(file)
 }
@@ -46,9 +48,9 @@ fn run_items(
     st: State,
     records: &mut [u32],
     payload: &mut [u8],
-) -> RunAnswer
+) -> Ran<State>
     requires { Accepted text.now name.now classes.now st }
-    ensures { (result, records.new, payload.new) ≡ run_items text.now name.now classes.now st records.old payload.old }
+    ensures { (ran_said result, records.new, payload.new) ≡ run_items text.now name.now classes.now st records.old payload.old }
 {
     let ops = op_char_table();
     let symbols = symbolchar_table();
@@ -56,10 +58,7 @@ fn run_items(
         off: st.bol,
         col: st.column,
     };
-    let mut at = Cursor {
-        st: st,
-        known: known,
-    };
+    let mut at = Cursor { st, known };
     let mut count: usize = 0;
     let mut used: usize = 0;
     loop {
@@ -83,12 +82,10 @@ fn run_items(
         ) {
             TurnResult::Stop(stop) => {
                 let state = last.st;
-                return RunAnswer {
-                    refusal: 0,
-                    offset: 0,
-                    stop: stop,
+                return Ran {
+                    stop,
                     count: written.count as u32,
-                    state: state,
+                    state,
                 };
             }
             TurnResult::Wrote { next, used: filled } => {
@@ -108,22 +105,12 @@ pub fn run(
     st: State,
     records: &mut [u32],
     payload: &mut [u8],
-) -> RunAnswer
-    ensures refused_or_counted { RefusedOrCounted text.now name.now classes.now st records.old payload.old (result, records.new, payload.new) }
-    ensures outcome { AsDefined text.now name.now classes.now st records.old payload.old (result, records.new, payload.new) }
-    ensures nothing_lost { NoByteVanishes text.now name.now classes.now st result }
-    ensures every_reading { LongestEverywhere text.now name.now classes.now st result }
+) -> Result<Ran<State>, RunRefusal>
+    ensures refused_or_counted { RefusedOrCounted text.now name.now classes.now st records.old payload.old (run_said st result, records.new, payload.new) }
+    ensures outcome { AsDefined text.now name.now classes.now st records.old payload.old (run_said st result, records.new, payload.new) }
+    ensures nothing_lost { NoByteVanishes text.now name.now classes.now st (run_said st result) }
+    ensures every_reading { LongestEverywhere text.now name.now classes.now st (run_said st result) }
 {
-    let refused = refusal(text, name, classes, st);
-    let taken = refused.number == 0;
-    if !taken {
-        return RunAnswer {
-            refusal: refused.number,
-            offset: refused.offset,
-            stop: 0,
-            count: 0,
-            state: st,
-        };
-    }
-    run_items(text, name, classes, st, records, payload)
+    refusal(text, name, classes, st)?;
+    Ok(run_items(text, name, classes, st, records, payload))
 }

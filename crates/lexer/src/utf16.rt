@@ -5,18 +5,21 @@
 // Proved: for every input each answers as the definition says, and `run` leaves both buffers so, refusals included. What `run` promises,
 // the demands on the first run and that both give the same items, stands in specs/Utf16Promises.antt. Assumed: nothing.
 ghost use Rattle.std.specs.Prelude.{◌≡◌};
-ghost use Rattle.definition.specs.Utf16.{utf16_start, utf16_refusal, utf16_run};
+ghost use Rattle.definition.specs.Answers.{start_said, ran_said, run_said};
+ghost use Rattle.definition.specs.Utf16.{utf16_zeros, utf16_start, utf16_refusal, utf16_run};
 ghost use Rattle.lexer.specs.Utf16Promises.{RefusedOrCounted, AsDefined, SameAsFirst, NoByteVanishes, LongestEverywhere};
 
 use chars::ascii::{op_char_table, symbolchar_table};
-use definition::{Utf16RunAnswer, Utf16StartAnswer, Utf16State};
+use definition::Utf16State;
+use definition::answers::{Ran, RunRefusal, StartRefusal};
 use refusal::utf16_refusal;
-use utf16_turn::{Utf16TurnResult, cursor_at, turn};
+use run_turn::TurnResult;
+use utf16_turn::{cursor_at, turn};
 
 // The state at the beginning of a text, at a line and a column: the line is the lexer's own, from 1, and the column is in both columns of
 // the line start.
-pub fn start(line: u32, column: u32) -> Utf16StartAnswer
-    ensures { result ≡ utf16_start line column }
+pub fn start(line: u32, column: u32) -> Result<Utf16State, StartRefusal>
+    ensures { start_said utf16_zeros result ≡ utf16_start line column }
 {
     state::utf16_start(line, column)
 }
@@ -29,9 +32,9 @@ fn run_items(
     g: Utf16State,
     records: &mut [u32],
     payload: &mut [u8],
-) -> Utf16RunAnswer
+) -> Ran<Utf16State>
     requires { (utf16_refusal text.now name.now classes.now g).0 ≡ 0 }
-    ensures { (result, records.new, payload.new) ≡ utf16_run text.now name.now classes.now g records.old payload.old }
+    ensures { (ran_said result, records.new, payload.new) ≡ utf16_run text.now name.now classes.now g records.old payload.old }
 {
     let ops = op_char_table();
     let symbols = symbolchar_table();
@@ -42,17 +45,15 @@ fn run_items(
         match turn(
             text, name, classes, &ops, &symbols, at, count, used, records, payload,
         ) {
-            Utf16TurnResult::Stop(stop) => {
+            TurnResult::Stop(stop) => {
                 let state = at.state;
-                return Utf16RunAnswer {
-                    refusal: 0,
-                    offset: 0,
-                    stop: stop,
+                return Ran {
+                    stop,
                     count: count as u32,
-                    state: state,
+                    state,
                 };
             }
-            Utf16TurnResult::Wrote { next, used: filled } => {
+            TurnResult::Wrote { next, used: filled } => {
                 at = next;
                 used = filled;
                 count += 1;
@@ -69,23 +70,13 @@ pub fn run(
     g: Utf16State,
     records: &mut [u32],
     payload: &mut [u8],
-) -> Utf16RunAnswer
-    ensures refused_or_counted { RefusedOrCounted text.now name.now classes.now g records.old payload.old (result, records.new, payload.new) }
-    ensures outcome { AsDefined text.now name.now classes.now g records.old payload.old (result, records.new, payload.new) }
-    ensures same_items { SameAsFirst text.now name.now classes.now g records.old payload.old (result, records.new, payload.new) }
-    ensures nothing_lost { NoByteVanishes text.now name.now classes.now g result }
-    ensures every_reading { LongestEverywhere text.now name.now classes.now g result }
+) -> Result<Ran<Utf16State>, RunRefusal>
+    ensures refused_or_counted { RefusedOrCounted text.now name.now classes.now g records.old payload.old (run_said g result, records.new, payload.new) }
+    ensures outcome { AsDefined text.now name.now classes.now g records.old payload.old (run_said g result, records.new, payload.new) }
+    ensures same_items { SameAsFirst text.now name.now classes.now g records.old payload.old (run_said g result, records.new, payload.new) }
+    ensures nothing_lost { NoByteVanishes text.now name.now classes.now g (run_said g result) }
+    ensures every_reading { LongestEverywhere text.now name.now classes.now g (run_said g result) }
 {
-    let refused = utf16_refusal(text, name, classes, g);
-    let taken = refused.number == 0;
-    if !taken {
-        return Utf16RunAnswer {
-            refusal: refused.number,
-            offset: refused.offset,
-            stop: 0,
-            count: 0,
-            state: g,
-        };
-    }
-    run_items(text, name, classes, g, records, payload)
+    utf16_refusal(text, name, classes, g)?;
+    Ok(run_items(text, name, classes, g, records, payload))
 }

@@ -8,7 +8,7 @@ use native.Mathlib.Nat.{not-suc-le-zero, le_of_suc-le-suc}
 use native.Mathlib.Omega.{arith}
 use lib.Dec.{leb}
 use lib.ListN.{length, get_or, take, drop, set, length-append, length-take, length-drop}
-use lib.Seq.{drop-drop}
+use Rattle.std.proofs.lemmas.List.{take_at, drop_at, drop-drop, drop-take, take-take}
 use borrow.Author.Tests.{leb-true}
 use borrow.Rule.Slice.PartMut.{mid_of, put_mid}
 use Rattle.definition.specs.Basics.{Bytes, ch}
@@ -150,9 +150,6 @@ unfolding numbers
 numbered_starts ws l h = record { room = h; few = omega arith; short = omega arith; wrote = wrote_none l }
 
 module _ {ws l now : List ℕ} {at k : ℕ} (g : Numbered ws l at k now) where
-  pub numbered_length : length now ≡ length l
-  numbered_length = wrote_length g.wrote (omega (arith, g.room, g.few, g.short))
-
   pub numbered_on : {tail : List ℕ} {n : ℕ} → k < 7
       → Wrote (ch " " ∷ show (get_or ws (get_or shown k 0) 0)) (mid_of at (length now - at) now) tail n × (n ≤ 11)
       → Numbered ws l (at + n) (k + 1) (put_mid at (length now - at) now tail)
@@ -210,29 +207,72 @@ lines_on (suc k) rs =
     (ap (λ (i : ℕ). drop i rs) (sym q) ∙ sym (drop-drop (record_size * k) record_size rs))
     ∙ lines_on k (drop record_size rs))
 
--- a record, from its first number up to the next record's
-pub record_at : (k : ℕ) (rs : List ℕ) → take ((record_size * k + record_size) - record_size * k) (drop (record_size * k) rs) ≡ take record_size (drop (record_size * k) rs)
-record_at k rs = let e : (record_size * k + record_size) - record_size * k ≡ record_size = omega arith in rw e
+-- a part of a list's beginning
+take_drop_take : (n i m : ℕ) (l : List ℕ) → i + n ≤ m → take n (drop i (take m l)) ≡ take n (drop i l)
+take_drop_take n i m l h =
+    let e : i + (m - i) ≡ m = omega arith in
+    ap (λ (j : ℕ). take n (drop i (take j l))) (sym e)
+    ∙ ap (take n) (drop-take i (m - i) l)
+    ∙ take-take n (m - i) (drop i l) (omega arith)
 
--- the lines of the first k records are written
-pub record Lined (rs before : List ℕ) (at k : ℕ) (after : List ℕ) : Type 0 where
+-- the lines of the first k of `count` records are written, and the others are what a chunk of `size` numbers after another is still
+-- taken of
+pub record Lined (rs before : List ℕ) (count at k size : ℕ) (rest after : List ℕ) : Type 0 where
+  pub few : k ≤ count
   pub short : at ≤ line_most * k
   pub wrote : Wrote (lines k rs) before after at
+  pub each : size ≡ record_size
+  pub left : rest ≡ drop (record_size * k) (take (record_size * count) rs)
 
-pub lined_starts : (rs l : List ℕ) → Lined rs l 0 0 l
+pub lined_starts : {rs rest : List ℕ} {count size : ℕ} (l : List ℕ) → size ≡ record_size → rest ≡ take (record_size * count) rs → Lined rs l count 0 0 size rest l
 unfolding lines
-lined_starts rs l = record { short = omega arith; wrote = wrote_none l }
+lined_starts l e p = record { few = omega arith; short = omega arith; wrote = wrote_none l; each = e; left = p }
 
-module _ {rs l now : List ℕ} {at k : ℕ} (g : Lined rs l at k now) where
-  pub lined_length : line_most * k ≤ length l → length now ≡ length l
-  lined_length h = wrote_length g.wrote (omega (arith, g.short))
+module _ {rs l now rest : List ℕ} {count at k size : ℕ} (g : Lined rs l count at k size rest now) where
+  -- the last record was taken
+  pub lined_ends : record_size * count ≤ length rs → length rest < size → Wrote (lines count rs) l now at
+  lined_ends h s =
+      let n : length (drop (record_size * k) (take (record_size * count) rs)) ≡ record_size * count - record_size * k =
+      simp (length-drop, length-take) (omega arith) in
+      let e : k ≡ count = omega (arith, n, ap length g.left, g.each, g.few) in
+      rw (← e) g.wrote
 
-  pub lined_on : {tail ws : List ℕ} {n : ℕ} → ws ≡ take record_size (drop (record_size * k) rs)
-      → Wrote (line ws) (mid_of at (length now - at) now) tail n × (n ≤ line_most)
-      → Lined rs l (at + n) (k + 1) (put_mid at (length now - at) now tail)
-  lined_on {tail} {ws} {n} e (w, m) =
-      let q : suc k ≡ k + 1 = omega arith in
-      record {
-        short = omega (arith, g.short);
-        wrote = rw (← q, ← lines_on k rs, ← e) (wrote_more g.wrote w);
-      }
+  module _ (ws others : List ℕ) (h : record_size * count ≤ length rs) (p : rest ≡ ws ++ others) (q : length ws ≡ size) where
+    -- the numbers left after the records that have their lines
+    left_size : record_size * k + record_size ≤ record_size * count
+    left_size =
+        let n : length (drop (record_size * k) (take (record_size * count) rs)) ≡ record_size * count - record_size * k =
+        simp (length-drop, length-take) (omega arith) in
+        omega (arith, n, ap length g.left, ap length p, length-append ws others, q, g.each, g.few)
+
+    -- there is one record more
+    pub lined_more : k < count
+    lined_more = omega (arith, left_size)
+
+    -- what comes is the next record
+    next_record : ws ≡ take record_size (drop (record_size * k) rs)
+    next_record =
+        sym (take_at ws others record_size (q ∙ g.each))
+        ∙ ap (take record_size) (sym p ∙ g.left)
+        ∙ take_drop_take record_size (record_size * k) (record_size * count) rs left_size
+
+    next_left : others ≡ drop (record_size * (k + 1)) (take (record_size * count) rs)
+    next_left =
+        let e : record_size * k + record_size ≡ record_size * (k + 1) = omega arith in
+        sym (drop_at ws others record_size (q ∙ g.each))
+        ∙ ap (drop record_size) (sym p ∙ g.left)
+        ∙ drop-drop record_size (record_size * k) (take (record_size * count) rs)
+        ∙ ap (λ (i : ℕ). drop i (take (record_size * count) rs)) e
+
+    pub lined_on : {tail : List ℕ} {n z : ℕ} → z ≡ size
+        → Wrote (line ws) (mid_of at (length now - at) now) tail n × (n ≤ line_most)
+        → Lined rs l count (at + n) (k + 1) z others (put_mid at (length now - at) now tail)
+    lined_on {tail} {n} e (w, m) =
+        let j : suc k ≡ k + 1 = omega arith in
+        record {
+          few = omega (arith, lined_more);
+          short = omega (arith, g.short);
+          wrote = rw (← j, ← lines_on k rs, ← next_record) (wrote_more g.wrote w);
+          each = e ∙ g.each;
+          left = next_left;
+        }

@@ -1,13 +1,7 @@
 -- What the functions that write lines promise and ask for, where that is more than an equation.
-use Rattle.std.specs.Prelude.{ℕ, ◌*◌, ◌≤◌, ◌<◌, ◌≡◌, List, [], length, get_or}
+use Rattle.std.specs.Prelude.{ℕ, ◌*◌, ◌≤◌, List, length}
 use Rattle.definition.specs.Basics.{Bytes}
 use Rattle.definition.specs.Item.{record_size}
-use Rattle.listing_lines.specs.Line.{names, name_of}
-
--- place k has the kind's name
-pub record Named (kind k : ℕ) : Type 0 where
-  pub within : k < 174
-  pub is : get_or names k [] ≡ name_of kind
 
 -- the most bytes of a line: a letter, a blank, a name of 26 at most, seven times a blank and 10 digits at most, a line feed
 abbrev pub line_most : ℕ

@@ -46,10 +46,8 @@ fn numbers_into(words: &[u32], out: &mut [u8]) -> usize
     ensures { Wrote (numbers (map (λ i. get_or words.now i 0) shown)) out.old out.new result × (result ≤ 77) }
 {
     let mut at = 0;
-    let mut k = 0;
-    while k < 7 {
-        at += number_into(words[SHOWN[k]], &mut out[at..]);
-        k += 1;
+    for i in SHOWN {
+        at += number_into(words[i], &mut out[at..]);
     }
     at
 }
@@ -81,12 +79,8 @@ pub fn lines_into(records: &[u32], count: usize, out: &mut [u8]) -> usize
     ensures { Wrote (lines count records.now) out.old out.new result }
 {
     let mut at = 0;
-    let mut k = 0;
-    while k < count {
-        let first = RECORD * k;
-        let end = first + RECORD;
-        at += line_into(&records[first..end], &mut out[at..]);
-        k += 1;
+    for record in records[..RECORD * count].chunks_exact(RECORD) {
+        at += line_into(record, &mut out[at..]);
     }
     at
 }

@@ -1,17 +1,15 @@
 -- What a listing's runs are lent, where they begin, and what a round of the listing, one run, promises.
-use Rattle.std.specs.Prelude.{ℕ, ◌*◌, ◌≤◌, ◌≡◌, List, [], ◌∷◌, ◌++◌, length, codes, decimal}
+use Rattle.std.specs.Prelude.{ℕ, ◌*◌, ◌≤◌, ◌≡◌, List, [], ◌∷◌, ◌++◌, length, codes, decimal, Result, Ok, Err}
+use Rattle.definition.specs.Answers.{RunAnswer, run_number, stop_number}
+use Rattle.definition.specs.declared.answers.RunRefusal.{RunRefusal}
 use Rattle.definition.specs.Basics.{Bytes}
 use Rattle.definition.specs.State.{started}
 use Rattle.definition.specs.Item.{Step, record_size, words}
 use Rattle.lemmas.specs.Over.{Wrote}
 use Rattle.either_run.specs.Either.{first_of, EitherOutcome, either_refusal, either_items}
-use Rattle.either_run.specs.declared.Answer.{Answer}
 use Rattle.either_run.specs.declared.Saved.{Saved}
 use Rattle.listing_lines.specs.Line.{line, lines}
-use Rattle.listing_rounds.specs.declared.rounds.Ending.{Ending}
-use Rattle.listing_rounds.specs.declared.rounds.Ending.TheVariants.{Refusal, All}
 use Rattle.listing_rounds.specs.declared.rounds.Round.{Round}
-use Rattle.listing_rounds.specs.declared.rounds.Round.TheVariants.{Refused, Lines}
 
 -- the state that a listing begins with, of either run: its nine numbers are line 1, column 0
 abbrev pub AtFirst : Saved → Type 0
@@ -29,13 +27,13 @@ pub record Lent (rs : List ℕ) (ps out : Bytes) : Type 0 where
   pub lines : length out ≡ 108544
 
 -- a run with the answer r was refused with this number, and the buffer is as it was
-pub record Refuses (r : Answer) (before : Bytes) (number : ℕ) (after : Bytes) : Type 0 where
+pub record Refuses (r : RunAnswer Saved) (before : Bytes) (number : ℕ) (after : Bytes) : Type 0 where
   pub refusal : r.refusal ≡ number
   pub some : number ≡ 0 → ⊥
   pub same : after ≡ before
 
 -- the lines of the items of a run with the answer r and the records rs, and nothing else, were written to the buffer
-pub record Lists (r : Answer) (rs : List ℕ) (before : Bytes) (bytes items stop : ℕ) (next : Saved) (after : Bytes) : Type 0 where
+pub record Lists (r : RunAnswer Saved) (rs : List ℕ) (before : Bytes) (bytes items stop : ℕ) (next : Saved) (after : Bytes) : Type 0 where
   pub taken : r.refusal ≡ 0
   pub all_items : items ≡ r.count
   pub reason : stop ≡ r.stop
@@ -43,12 +41,12 @@ pub record Lists (r : Answer) (rs : List ℕ) (before : Bytes) (bytes items stop
   pub written : Wrote (lines r.count rs) before after bytes
 
 -- what is told of a run with the answer r and the records rs, and left in the buffer
-unfoldable pub Told : Answer → List ℕ → Bytes → Round → Bytes → Type 0
-Told r rs before (Refused number) after = Refuses r before number after
-Told r rs before (Lines bytes items stop next) after = Lists r rs before bytes items stop next after
+unfoldable pub Told : RunAnswer Saved → List ℕ → Bytes → Result Round RunRefusal → Bytes → Type 0
+Told r rs before (Err refusal) after = Refuses r before (run_number refusal) after
+Told r rs before (Ok x) after = Lists r rs before x.bytes x.items (stop_number x.stop) x.next after
 
 -- what a round answers, and leaves in the buffer
-abbrev pub Rounded : EitherOutcome → Bytes → Round → Bytes → Type 0
+abbrev pub Rounded : EitherOutcome → Bytes → Result Round RunRefusal → Bytes → Type 0
 Rounded o = Told o.0 o.1
 
 -- the lines of items; word 6, which no line shows, is 0 here
@@ -60,10 +58,14 @@ lines_of (t ∷ ts) = line (words t.item 0) ++ lines_of ts
 abbrev pub listing : Bytes → Bytes → Bytes → Saved → Bytes
 listing s name f from = lines_of (either_items s name f from)
 
--- how a listing from a state on ends: with the refusal of a run, or with the count of all items
+-- how a listing ends: with the refusal of a run, or with the count of all items
+abbrev pub Ending : Type 0
+Ending = Result ℕ RunRefusal
+
+-- how a listing from a state on ends
 abbrev pub Ends : Bytes → Bytes → Bytes → Saved → Ending → Type 0
-Ends s name f from (Refusal number) = (number ≡ either_refusal s name f from) × (number ≡ 0 → ⊥)
-Ends s name f from (All count) = (either_refusal s name f from ≡ 0) × (count ≡ length (either_items s name f from))
+Ends s name f from (Err refusal) = (run_number refusal ≡ either_refusal s name f from) × (run_number refusal ≡ 0 → ⊥)
+Ends s name f from (Ok count) = (either_refusal s name f from ≡ 0) × (count ≡ length (either_items s name f from))
 
 -- a line of a word and a number
 abbrev pub told : Bytes → ℕ → Bytes
@@ -71,10 +73,10 @@ told word number = word ++ (codes " " ++ (decimal number ++ codes "\n"))
 
 -- what a listing that ends so writes before its last line: nothing where it is refused
 abbrev pub before_last : Bytes → Bytes → Bytes → Saved → Ending → Bytes
-before_last s name f from (Refusal number) = []
-before_last s name f from (All count) = listing s name f from
+before_last s name f from (Err refusal) = []
+before_last s name f from (Ok count) = listing s name f from
 
 -- its last line
 abbrev pub last_line : Ending → Bytes
-last_line (Refusal number) = told (codes "REFUSED") number
-last_line (All count) = told (codes "END") count
+last_line (Err refusal) = told (codes "REFUSED") (run_number refusal)
+last_line (Ok count) = told (codes "END") count

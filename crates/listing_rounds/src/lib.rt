@@ -9,18 +9,18 @@
 // fails ends the listing with its error.
 #![tactic(auto)]
 
-pub mod rounds; // rounds.rt: what a listing is lent, what one of its runs gives, and how it all ends
+pub mod rounds; // rounds.rt: what a listing is lent, and what one of its runs gives
 
 ghost use Rattle.std.specs.Prelude.{◌++◌, ◌<◌, ◌≤◌, length, codes, IfOk, OnOk};
 ghost use Rattle.std.specs.Io.KnownBytes.{Appends};
 ghost use Rattle.definition.specs.Tables.{cps};
 ghost use Rattle.either_run.specs.Either.{either_run};
-ghost use Rattle.listing_rounds.specs.Rounds.{AtFirst, Lent, Begun, Rounded, Ends, told, before_last, last_line};
-ghost use Rattle.listing_rounds.specs.declared.rounds.Ending.{Ending};
+ghost use Rattle.listing_rounds.specs.Rounds.{AtFirst, Lent, Begun, Rounded, Ending, Ends, told, before_last, last_line};
 
+use definition::answers::{RunRefusal, Stop};
 use either_run::{Saved, run};
-use inputs::{class_buffer, read_classes, read_full, short_text_buffer};
-use rounds::{Ending, Round, line_buffer, payload_buffer, record_buffer, round_of, too_long};
+use inputs::{CLASSES, SHORT_TEXT, buffer, read_classes, read_full};
+use rounds::{LINES, PAYLOAD, RECORDS, Round, round_of, too_long};
 use std::fs::Files;
 use std::io;
 use std::io::Write;
@@ -40,7 +40,7 @@ fn run_once(
     records: &mut [u32],
     payload: &mut [u8],
     out: &mut [u8],
-) -> Round
+) -> Result<Round, RunRefusal>
     requires { Lent records.old payload.old out.old }
     ensures { Rounded (either_run text.now (cps "stdin") classes.now from records.old payload.old) out.old result out.new }
 {
@@ -48,12 +48,10 @@ fn run_once(
     round_of(answer, records, out)
 }
 
-// Why a run stopped: it came to the end.
-const AT_END: u32 = 0;
-
 // Runs on from a state until the end, and writes the lines of each run at once. Only the first run can be refused, since the
 // state that a run hands back is taken again. Each run but the last writes an item, since both buffers are free again and have
-// room for any one item: so what is left to read falls with each run. The only error is the writer's own.
+// room for any one item: so what is left to read falls with each run. It answers what refused the first run, or how many items
+// are listed; the only error is the writer's own.
 fn list_from<W: Write>(
     to: &mut W,
     text: &[u8],
@@ -62,7 +60,7 @@ fn list_from<W: Write>(
     records: &mut [u32],
     payload: &mut [u8],
     out: &mut [u8],
-) -> io::Result<Ending>
+) -> io::Result<Result<u64, RunRefusal>>
     requires { Begun text.now begun × Lent records.old payload.old out.old }
     ensures ends { IfOk result (Ends text.now (cps "stdin") classes.now begun) }
     ensures lines { IfOk result (λ ending. Appends (W.contents to.old) (W.contents to.new) (before_last text.now (cps "stdin") classes.now begun ending)) }
@@ -71,17 +69,19 @@ fn list_from<W: Write>(
     let mut listed: u64 = 0;
     loop {
         match run_once(text, classes, from, records, payload, out) {
-            Round::Refused(number) => return Ok(Ending::Refusal(number)),
-            Round::Lines {
-                bytes,
-                items,
-                stop,
-                next,
-            } => {
+            Err(refusal) => return Ok(Err(refusal)),
+            Ok(
+                Round {
+                    bytes,
+                    items,
+                    stop,
+                    next,
+                },
+            ) => {
                 to.write_all(&out[..bytes])?;
                 listed += items as u64;
-                if stop == AT_END {
-                    return Ok(Ending::All(listed));
+                if stop == Stop::End {
+                    return Ok(Ok(listed));
                 }
                 from = next;
             }
@@ -90,12 +90,12 @@ fn list_from<W: Write>(
 }
 
 // The last line.
-fn say_ending<W: Write>(to: &mut W, ending: Ending) -> io::Result<()>
+fn say_ending<W: Write>(to: &mut W, ending: Result<u64, RunRefusal>) -> io::Result<()>
     ensures { OnOk result (Appends (W.contents to.old) (W.contents to.new) (last_line ending)) }
 {
     match ending {
-        Ending::Refusal(number) => say(to, "REFUSED", number as u64),
-        Ending::All(items) => say(to, "END", items),
+        Err(refusal) => say(to, "REFUSED", refusal.number() as u64),
+        Ok(items) => say(to, "END", items),
     }
 }
 
@@ -107,11 +107,11 @@ pub fn list<W: Write>(to: &mut W, text: &[u8], classes: &[u8], begun: Saved) -> 
         × Appends (W.contents to.old) (W.contents to.new) (before_last text.now (cps "stdin") classes.now begun ending ++ last_line ending)) }
 {
     if too_long(text.len()) {
-        return say(to, "REFUSED", 6);
+        return say_ending(to, Err(RunRefusal::TextLength));
     }
-    let mut records = record_buffer();
-    let mut payload = payload_buffer();
-    let mut out = line_buffer();
+    let mut records: [u32; RECORDS] = buffer(0);
+    let mut payload: [u8; PAYLOAD] = buffer(0);
+    let mut out: [u8; LINES] = buffer(0);
     let ending = list_from(
         to,
         text,
@@ -128,8 +128,8 @@ pub fn list<W: Write>(to: &mut W, text: &[u8], classes: &[u8], begun: Saved) -> 
 pub fn list_input<R: Files + Input + Print>(rt: &R, begun: Saved) -> io::Result<()>
     requires { AtFirst begun }
 {
-    let mut text = short_text_buffer();
-    let mut file = class_buffer();
+    let mut text: [u8; SHORT_TEXT] = buffer(0);
+    let mut file: [u8; CLASSES] = buffer(0);
     let mut input = rt.reader();
     let length = read_full(&mut input, &mut text)?;
     let size = read_classes(rt, &mut file)?;

@@ -8,7 +8,6 @@ use either_run::Saved;
 use std::io;
 
 fn main(rt: HostRuntime) -> io::Result<()> {
-    let begun = lexer::utf16::start(1, 0);
-    let state = begun.state;
+    let state = lexer::utf16::start(1, 0).unwrap();
     listing_rounds::list_input(&rt, Saved::Utf16(state))
 }

@@ -1,9 +1,9 @@
 -- A choice whose rule neither passes white space nor a line end gives an item, and so does the text's end. Rests on the table of rules.
+use Rattle.std.specs.Prelude.{Option, Some, None}
 use Prim.Native.Nat.{ℕ}
 use Prim.Native.String.{String}
 use mathlib.Core.Path.{◌≡◌, refl, ap, subst, sym, ◌∙◌}
 use mathlib.Core.List.{List}
-use mathlib.Core.Option.{Option, none, some}
 use lib.Dec.{eqb}
 use lib.ListN.{length}
 use Rattle.definition.specs.Basics.{Bytes, done}
@@ -43,9 +43,9 @@ module _ (s name f : Bytes) (st : State) where
   word_gives : (e : ℕ) (table : List Entry) (k : String) → Gives (finish_word s st e table k)
   word_gives e table k = go (find (lexeme s st.offset e) table)
     where
-      go : (x : Option Entry) → Gives (elim x [ some y ↦ finish_entry s st e y | none ↦ finish s st e (kind k) (lexeme s st.offset e) ])
-      go (some y) = record { item = _; is = refl }
-      go none = record { item = _; is = refl }
+      go : (x : Option Entry) → Gives (elim x [ Some y ↦ finish_entry s st e y | None ↦ finish s st e (kind k) (lexeme s st.offset e) ])
+      go (Some y) = record { item = _; is = refl }
+      go None = record { item = _; is = refl }
 
   action_gives : (r : ActionRule) (k e w : ℕ) → Gives (action_does s name r st k e w)
   action_gives Plain k e w = record { item = _; is = refl }

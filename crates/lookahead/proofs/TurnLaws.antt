@@ -1,4 +1,5 @@
 -- A turn of `next_token` that goes on, and where a reader stands after white space. Rests on the laws of progress and of sound states.
+use Rattle.std.specs.Prelude.{Some}
 use Prim.Native.Nat.{◌-◌, ◌<◌}
 use native.Mathlib.Omega.{arith}
 use mathlib.Core.Path.{◌≡◌, refl, sym, ap, ◌∙◌}
@@ -24,7 +25,6 @@ use Rattle.reader.specs.declared.ReadResult.{ReadResult}
 use Rattle.reader.specs.declared.ReadResult.TheVariants.{Again}
 use Rattle.reader.proofs.Turning.{turned_again}
 use Rattle.lookahead.specs.White.{Between, Passes, AfterWhite}
-use Rattle.lookahead.specs.declared.white_space.Passed.TheVariants.{On}
 
 -- before the text's end a turn acts on the choice
 pub turn_is : (s name f : Bytes) (st : State) (c : Choice) → st.offset < length s → c ≡ select s f st.offset → token_turn s name f st ≡ act s name f st c
@@ -73,7 +73,7 @@ pub after_white_starts : {s f : Bytes} {at : Cursor} → Between s f at → Afte
 after_white_starts h = record { ready = h; same = λ name. refl; given = λ name. refl; less = omega arith }
 
 -- what is passed leads on after it
-pub after_white_on : {s f : Bytes} {first here next : Cursor} → AfterWhite s f first here → Passes s f here.st (On next)
+pub after_white_on : {s f : Bytes} {first here next : Cursor} → AfterWhite s f first here → Passes s f here.st (Some next)
     → AfterWhite s f first next × (length s - next.st.offset < length s - here.st.offset)
 after_white_on {s} {f} {first} {here} {next} b p =
     let goes : (name : Bytes) → Goes s name f here.st next = λ name. turn_goes s name f here.st next b.ready.standing.stands b.ready.between (p name) in

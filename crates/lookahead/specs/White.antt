@@ -1,5 +1,5 @@
 -- White space and line ends that are passed before a choice is made. s is the text, f the class file.
-use Rattle.std.specs.Prelude.{◌-◌, ◌≤◌, ◌≡◌, length}
+use Rattle.std.specs.Prelude.{◌-◌, ◌≤◌, ◌≡◌, length, Option, Some, None}
 use Rattle.definition.specs.Basics.{Bytes}
 use Rattle.definition.specs.ClassFile.{class_check}
 use Rattle.definition.specs.Token.{token_turn, next_token}
@@ -9,8 +9,6 @@ use Rattle.reader.specs.Described.{Turns}
 use Rattle.reader.specs.Standing.{Standing}
 use Rattle.reader.specs.declared.Cursor.{Cursor}
 use Rattle.reader.specs.declared.ReadResult.TheVariants.{Again}
-use Rattle.lookahead.specs.declared.white_space.Passed.{Passed}
-use Rattle.lookahead.specs.declared.white_space.Passed.TheVariants.{On, Nothing}
 
 -- a reader stands between comments, and the class file is accepted
 pub record Between (s f : Bytes) (at : Cursor) : Type 0 where
@@ -19,9 +17,9 @@ pub record Between (s f : Bytes) (at : Cursor) : Type 0 where
   pub accepted : class_check f ≡ 0
 
 -- where something is passed, a turn of the definition goes on there too
-abbrev pub Passes : Bytes → Bytes → State → Passed → Type 0
-Passes s f st (On p) = (name : Bytes) → Turns s name f (token_turn s name f st) (Again p)
-Passes s f st Nothing = Unit {0}
+abbrev pub Passes : Bytes → Bytes → State → Option Cursor → Type 0
+Passes s f st (Some p) = (name : Bytes) → Turns s name f (token_turn s name f st) (Again p)
+Passes s f st None = Unit {0}
 
 -- a reader stands at r as one at `at` does, reads the same item from there, given at the same place, and has no more of the text ahead of it
 pub record AfterWhite (s f : Bytes) (at r : Cursor) : Type 0 where

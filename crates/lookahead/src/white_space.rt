@@ -7,37 +7,29 @@
 // comments, and the class file is accepted.
 ghost use Rattle.lookahead.specs.White.{Between, Passes, AfterWhite};
 
-use definition::Match;
 use match_lit::byte_either;
 use matchers::match_newline;
 use reader::Cursor;
 use reader::cursors::{moved, next_line};
-use star::blanks::{blank_at, star_anywhite};
+use star::tests::White;
+use star::{passes_at, star_chars};
 
-// What is passed at a cursor: a run of white space or a line end, with the cursor after it, or nothing.
-#[derive(Clone, Copy)]
-enum Passed {
-    On(Cursor),
-    Nothing,
-}
-
-// One run of white space or one line end.
-fn past_white(text: &[u8], classes: &[u8], at: Cursor) -> Passed
+// The cursor after one run of white space or one line end, if one stands there.
+fn past_white(text: &[u8], classes: &[u8], at: Cursor) -> Option<Cursor>
     requires { Between text.now classes.now at }
     ensures { Passes text.now classes.now at.st result }
 {
     let st = at.st;
     let i = st.offset as usize;
-    if blank_at(text, i) {
-        return Passed::On(moved(at, star_anywhite(text, classes, i + 1)));
+    let white = White { file: classes };
+    if passes_at(text, white, i) {
+        return Some(moved(at, star_chars(text, white, i + 1)));
     }
     if !byte_either(text, i, b'\n', b'\r') {
-        return Passed::Nothing;
+        return None;
     }
-    let Match::To(e) = match_newline(text, i) else {
-        return Passed::Nothing;
-    };
-    Passed::On(next_line(at, e))
+    let e = match_newline(text, i)?;
+    Some(next_line(at, e))
 }
 
 // Where a reader stands after white space and line ends that begin with ASCII.
@@ -46,10 +38,8 @@ pub fn after_white(text: &[u8], classes: &[u8], at: Cursor) -> Cursor
     ensures { AfterWhite text.now classes.now at result }
 {
     let mut here = at;
-    loop {
-        let Passed::On(next) = past_white(text, classes, here) else {
-            return here;
-        };
+    while let Some(next) = past_white(text, classes, here) {
         here = next;
     }
+    here
 }

@@ -1,5 +1,6 @@
 -- The bits of a block say which of its code points are letters, and they hang on the ranges alone that meet the block, so that only
 -- those are computed with. Rests on the definition's `ll_tbl` and on the laws of tests.
+use Rattle.std.specs.Prelude.{Option, Some}
 use Prim.Native.Nat.{ℕ, zero, suc, ◌+◌, ◌*◌, ◌/◌, ◌%◌, ◌^◌, ◌≤◌, ◌<◌}
 use mathlib.Core.Path.{◌≡◌, refl, sym, ap, ◌∙◌}
 use mathlib.Core.Bool.{Bool, true, false, ◌||◌}
@@ -14,8 +15,6 @@ use Rattle.definition.specs.Lowercase.{ll_tbl, is_ll}
 use Rattle.lemmas.proofs.Cases.{by_test, either}
 use Rattle.class_file.proofs.SearchLaws.{between_cases}
 use Rattle.lowercase.specs.Blocks.{as_bit, letters, Tells}
-use Rattle.lowercase.specs.declared.blocks.Block.{Block}
-use Rattle.lowercase.specs.declared.blocks.Block.TheVariants.{Letters}
 
 -- ---- the bits
 
@@ -51,7 +50,7 @@ bit_tested true = refl
 bit_tested false = refl
 
 -- What is told of a block tells of each of its code points.
-pub bit_told : (c : ℕ) {r : Block} {w : ℕ} → Tells (c / 64) r → r ≡ Letters w → eqb (w / 2 ^ (c % 64) % 2) 1 ≡ is_ll c
+pub bit_told : (c : ℕ) {r : Option ℕ} {w : ℕ} → Tells (c / 64) r → r ≡ Some w → eqb (w / 2 ^ (c % 64) % 2) 1 ≡ is_ll c
 bit_told c {w = w} t e =
     let told : w ≡ letters is_ll 64 (64 * (c / 64)) = rw e at t in
     let place : 64 * (c / 64) + c % 64 ≡ c = omega arith in

@@ -1,3 +1,2 @@
 pub mod BlockLaws
-pub mod LowercaseTable
 pub mod WithoutLetters

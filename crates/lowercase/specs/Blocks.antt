@@ -1,8 +1,6 @@
 -- The letters of a block of 64 code points as the bits of a number.
-use Rattle.std.specs.Prelude.{ℕ, zero, suc, ◌+◌, ◌*◌, ◌≡◌, Bool, true, false}
+use Rattle.std.specs.Prelude.{ℕ, zero, suc, ◌+◌, ◌*◌, ◌≡◌, Bool, true, false, Option, Some, None}
 use Rattle.definition.specs.Lowercase.{is_ll}
-use Rattle.lowercase.specs.declared.blocks.Block.{Block}
-use Rattle.lowercase.specs.declared.blocks.Block.TheVariants.{Letters, Untold}
 
 -- a test's answer as a bit
 abbrev pub as_bit : Bool → ℕ
@@ -15,6 +13,6 @@ letters test zero c = 0
 letters test (suc n) c = as_bit (test c) + 2 * letters test n (suc c)
 
 -- what is told of block k are its letters
-abbrev pub Tells : ℕ → Block → Type 0
-Tells k (Letters w) = w ≡ letters is_ll 64 (64 * k)
-Tells k Untold = Unit {0}
+abbrev pub Tells : ℕ → Option ℕ → Type 0
+Tells k (Some w) = w ≡ letters is_ll 64 (64 * k)
+Tells k None = Unit {0}

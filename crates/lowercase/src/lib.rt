@@ -7,48 +7,29 @@
 mod blocks; // blocks.rt: the letters of some blocks of code points
 mod ll_table; // ll_table.rt: the ranges
 
-ghost use Rattle.std.specs.Prelude.{◌≡◌, ◌<◌, get_or};
-ghost use Rattle.definition.specs.Lowercase.{ll_tbl, flat, is_ll};
+ghost use Rattle.std.specs.Prelude.{◌≡◌};
+ghost use Rattle.definition.specs.Lowercase.{ll_tbl, is_ll};
 ghost use Rattle.class_file.specs.Search.{range_of};
 
-use crate::blocks::{Block, block_letters};
+use crate::blocks::block_letters;
 use crate::ll_table::LL;
-use class_file::members::Found;
-
-const RANGES: usize = 664;
-
-// The number at place i of the table.
-fn ll_number(i: usize) -> u32
-    requires { i < 1328 }
-    ensures { result ≡ get_or (flat ll_tbl) i 0 }
-{
-    LL[i]
-}
+use class_file::members::side;
 
 // The range of the table that holds c.
-pub fn find_ll(c: u32) -> Found
+pub fn find_ll(c: u32) -> Option<usize>
     ensures { result ≡ range_of ll_tbl c }
 {
-    let mut low = 0;
-    let mut high = RANGES;
-    while low < high {
-        let mid = low + (high - low) / 2;
-        if c < ll_number(2 * mid) {
-            high = mid;
-        } else if ll_number(2 * mid + 1) < c {
-            low = mid + 1;
-        } else {
-            return Found::At(mid);
-        }
-    }
-    Found::Nothing
+    let (ranges, _) = LL.as_chunks::<2>();
+    ranges
+        .binary_search_by(|range| side((range[0], range[1]), c))
+        .ok()
 }
 
 // Whether c is a letter: where its block tells, the table is not searched.
 pub fn is_ll(c: u32) -> bool
     ensures { result ≡ is_ll c }
 {
-    let Block::Letters(letters) = block_letters(c / 64) else {
+    let Some(letters) = block_letters(c / 64) else {
         return find_ll(c).is_some();
     };
     (letters >> (c % 64)) % 2 == 1

@@ -1,5 +1,5 @@
 // The built-in table of lowercase letters, as numbers. That it is the source's is a computed test (crate `definition`,
-// proofs/Tables.antt, and the proof of `ll_number`).
+// proofs/Tables.antt, and the proof of `find_ll`).
 
 // The source's `ll_ranges`: the first and the last code point of each range, one range after the other.
 pub(crate) const LL: [u32; 1328] = [

@@ -12,39 +12,41 @@ ghost use Rattle.std.specs.Prelude.{◌≡◌};
 ghost use Rattle.definition.specs.Matchers.{◌then◌, later, match_lit, match_integer, match_xinteger, match_int_suffix, match_int_usuffix};
 ghost use Rattle.match_number.specs.IntegerParts.{integer_ends, usuffix};
 
-use definition::Match;
 use match_lit::{byte_either, byte_is, later, lit_after, match_lit};
-use star::{plus_binary, plus_digit, plus_hex, plus_octal};
+use star::plus_ascii;
+use star::tests::{Binary, Digit, Hex, Octal};
 
 // The end of an integer's digits, and that of the digits after 0x, 0o or 0b: the source's `any_integer_ends`.
 #[derive(Clone, Copy)]
 pub struct IntegerEnds {
-    pub plain: Match,
-    pub based: Match,
+    pub plain: Option<usize>,
+    pub based: Option<usize>,
 }
 
-pub fn match_integer(text: &[u8], i: usize) -> Match
+#[tactic(auto, unfolding(definition::specs::Matchers::match_integer))]
+pub fn match_integer(text: &[u8], i: usize) -> Option<usize>
     ensures { result ≡ match_integer text.now i }
 {
-    plus_digit(text, i)
+    plus_ascii(text, Digit, i)
 }
 
-pub fn match_xinteger(text: &[u8], i: usize) -> Match
+#[tactic(auto, using(match_lit::proofs::ByteLaws::has_inside), unfolding(definition::specs::Matchers::match_xinteger))]
+pub fn match_xinteger(text: &[u8], i: usize) -> Option<usize>
     ensures { result ≡ match_xinteger text.now i }
 {
     if !byte_is(text, i, b'0') {
-        return Match::Nothing;
+        return None;
     }
     if byte_either(text, i + 1, b'x', b'X') {
-        return plus_hex(text, i + 2);
+        return plus_ascii(text, Hex, i + 2);
     }
     if byte_either(text, i + 1, b'o', b'O') {
-        return plus_octal(text, i + 2);
+        return plus_ascii(text, Octal, i + 2);
     }
     if byte_either(text, i + 1, b'b', b'B') {
-        return plus_binary(text, i + 2);
+        return plus_ascii(text, Binary, i + 2);
     }
-    Match::Nothing
+    None
 }
 
 pub fn any_integer_ends(text: &[u8], i: usize) -> IntegerEnds
@@ -57,51 +59,47 @@ pub fn any_integer_ends(text: &[u8], i: usize) -> IntegerEnds
 }
 
 // The end of a suffix after either end of an integer.
-pub fn suffix_after(text: &[u8], ends: IntegerEnds, suffix: &[u8]) -> Match
+pub fn suffix_after(text: &[u8], ends: IntegerEnds, suffix: &[u8]) -> Option<usize>
     ensures { result ≡ later (ends.plain then match_lit text.now suffix.now) (ends.based then match_lit text.now suffix.now) }
 {
-    let plain = ends.plain;
-    let based = ends.based;
     later(
-        lit_after(text, plain, suffix),
-        lit_after(text, based, suffix),
+        lit_after(text, ends.plain, suffix),
+        lit_after(text, ends.based, suffix),
     )
 }
 
 // Nothing calls it yet: request K7 asks for each place's own longest end.
-pub fn match_int_suffix(text: &[u8], i: usize, suffix: &[u8]) -> Match
+pub fn match_int_suffix(text: &[u8], i: usize, suffix: &[u8]) -> Option<usize>
     ensures { result ≡ match_int_suffix text.now i suffix.now }
 {
     suffix_after(text, any_integer_ends(text, i), suffix)
 }
 
 // The end of a u or U and a suffix after an end.
-fn u_lit_after(text: &[u8], m: Match, suffix: &[u8]) -> Match
+#[tactic(auto, using(match_lit::proofs::ByteLaws::has_inside), unfolding(crate::specs::IntegerParts::usuffix))]
+fn u_lit_after(text: &[u8], m: Option<usize>, suffix: &[u8]) -> Option<usize>
     ensures { result ≡ (m then usuffix text.now suffix.now) }
 {
-    let Match::To(e) = m else {
-        return Match::Nothing;
-    };
+    let e = m?;
     if byte_either(text, e, b'u', b'U') {
         return match_lit(text, suffix, e + 1);
     }
-    Match::Nothing
+    None
 }
 
-// The end of a u or U and a suffix after either end of an integer.
-pub fn usuffix_after(text: &[u8], ends: IntegerEnds, suffix: &[u8]) -> Match
+// The end of a u or U and a suffix after either end of an integer. (The source has a matcher of either kind, `match_int_suffix` and
+// `match_int_usuffix`; what they share is `later` over both ends.)
+pub fn usuffix_after(text: &[u8], ends: IntegerEnds, suffix: &[u8]) -> Option<usize>
     ensures { result ≡ later (ends.plain then usuffix text.now suffix.now) (ends.based then usuffix text.now suffix.now) }
 {
-    let plain = ends.plain;
-    let based = ends.based;
     later(
-        u_lit_after(text, plain, suffix),
-        u_lit_after(text, based, suffix),
+        u_lit_after(text, ends.plain, suffix),
+        u_lit_after(text, ends.based, suffix),
     )
 }
 
 // Nothing calls it yet: request K7 asks for each place's own longest end.
-pub fn match_int_usuffix(text: &[u8], i: usize, suffix: &[u8]) -> Match
+pub fn match_int_usuffix(text: &[u8], i: usize, suffix: &[u8]) -> Option<usize>
     ensures { result ≡ match_int_usuffix text.now i suffix.now }
 {
     usuffix_after(text, any_integer_ends(text, i), suffix)

@@ -15,53 +15,48 @@ ghost use Rattle.definition.specs.Matchers.{match_newline, match_ident, match_co
 
 use chars::fixed::is_newline_char;
 use chars::{is_constructor_start, is_ident_start};
-use definition::{Match, Sequence};
+use definition::Sequence;
 use match_lit::byte_is;
-use star::star_ident_char;
+use star::star_chars;
+use star::tests::IdentChar;
 use utf8::sequence_at;
 
 // The end of a line end: CR LF, or one of its four characters.
-pub fn match_newline(text: &[u8], i: usize) -> Match
+pub fn match_newline(text: &[u8], i: usize) -> Option<usize>
     ensures { result ≡ match_newline text.now i }
 {
     let Sequence::Char(c, width) = sequence_at(text, i) else {
-        return Match::Nothing;
+        return None;
     };
-    if !is_newline_char(c) {
-        return Match::Nothing;
+    if c == b'\r' as u32 && byte_is(text, i + 1, b'\n') {
+        return Some(i + 2);
     }
-    if c != b'\r' as u32 {
-        return Match::To(i + width);
-    }
-    if byte_is(text, i + 1, b'\n') {
-        return Match::To(i + 2);
-    }
-    Match::To(i + width)
+    is_newline_char(c).then_some(i + width)
 }
 
-pub fn match_ident(text: &[u8], file: &[u8], i: usize) -> Match
+pub fn match_ident(text: &[u8], file: &[u8], i: usize) -> Option<usize>
     requires { class_check file.now ≡ 0 }
     ensures { result ≡ match_ident text.now file.now i }
 {
     let Sequence::Char(c, width) = sequence_at(text, i) else {
-        return Match::Nothing;
+        return None;
     };
     if is_ident_start(c) {
-        return Match::To(star_ident_char(text, file, i + width));
+        return Some(star_chars(text, IdentChar { file }, i + width));
     }
-    Match::Nothing
+    None
 }
 
 // Nothing calls it yet: request K7 asks for each place's own longest end.
-pub fn match_constructor(text: &[u8], file: &[u8], i: usize) -> Match
+pub fn match_constructor(text: &[u8], file: &[u8], i: usize) -> Option<usize>
     requires { class_check file.now ≡ 0 }
     ensures { result ≡ match_constructor text.now file.now i }
 {
     let Sequence::Char(c, width) = sequence_at(text, i) else {
-        return Match::Nothing;
+        return None;
     };
     if is_constructor_start(file, c) {
-        return Match::To(star_ident_char(text, file, i + width));
+        return Some(star_chars(text, IdentChar { file }, i + width));
     }
-    Match::Nothing
+    None
 }

@@ -68,6 +68,13 @@ show_more n h =
     loop_again falls (λ a. a.1) (suc n) (n, []) (n / 10, (48 + n % 10) ∷ []) tt (omega arith) (turn_more n [] h)
     ∙ show_onto (suc n) (n / 10) ((48 + n % 10) ∷ []) (omega arith)
 
+-- Each number has a digit.
+pub show_some : (n : ℕ) → 1 ≤ length (show n)
+show_some n =
+    by_order n 10
+    (λ l. omega (arith, ap length (show_last n l)))
+    (λ l. omega (arith, ap length (show_more n l), length-append (show (n / 10)) ((48 + n % 10) ∷ [])))
+
 -- ---- the count: so many digits are counted, and those of what is left but one
 
 pub record Counted (n left count : ℕ) : Type 0 where
@@ -153,11 +160,18 @@ module _ {n : ℕ} {d : Bytes} {left at : ℕ} {l : Bytes} (s : Showing n d left
         written = digit_written (show (left / 10)) x e;
       }
 
-  -- There is a place for a digit more.
-  pub showing_room : 10 ≤ left → (1 ≤ at) × (at ≤ length d)
+  -- Where more than one digit is left the number is 10 or more, and there is a place for its last.
+  pub showing_room : 1 < at → (10 ≤ left) × (at ≤ length d)
   showing_room h =
-      let e = show_more left h in
-      (omega (arith, digit_place (show (left / 10)) (48 + left % 10) e), digit_room (show (left / 10)) (48 + left % 10) e)
+      by_order left 10
+      (λ l. absurd (omega (arith, s.place, ap length (show_last left l))))
+      (λ l. (l, digit_room (show (left / 10)) (48 + left % 10) (show_more left l)))
+
+  -- Where one is left the number is below 10.
+  pub showing_one : at ≤ 1 → left < 10
+  showing_one h =
+      by_order left 10 (λ l. l)
+      (λ l. absurd (omega (arith, s.place, ap length (show_more left l), length-append (show (left / 10)) ((48 + left % 10) ∷ []), show_some (left / 10))))
 
   pub showing_ends : left < 10 → set l 0 (48 + left) ≡ over (show n) d
   unfolding over

@@ -1,5 +1,5 @@
 -- What the functions that clean a number promise.
-use Rattle.std.specs.Prelude.{ℕ, ◌≤◌, ◌≡◌, length, drop}
+use Rattle.std.specs.Prelude.{ℕ, ◌≤◌, ◌≡◌, length, take, drop}
 use Rattle.std.proofs.Math.Seq.{slice}
 use Rattle.definition.specs.Basics.{Bytes}
 use Rattle.definition.specs.Numbers.{strip_left, strip_right, clean_number}
@@ -10,11 +10,10 @@ pub record LeftStripped (s : Bytes) (from : ℕ) : Type 0 where
   pub within : from ≤ length s
   pub is : drop from s ≡ strip_left s
 
--- what `strip_right` leaves of the bytes from from on ends at to
-pub record RightStripped (s : Bytes) (from to : ℕ) : Type 0 where
-  pub ordered : from ≤ to
+-- what `strip_right` leaves of s ends at to
+pub record RightStripped (s : Bytes) (to : ℕ) : Type 0 where
   pub within : to ≤ length s
-  pub is : slice from to s ≡ strip_right (drop from s)
+  pub is : take to s ≡ strip_right s
 
 -- the part of s that `clean_number` leaves
 pub record Cleaned (s : Bytes) (part : Part) : Type 0 where

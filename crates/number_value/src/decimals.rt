@@ -6,14 +6,15 @@ ghost use Rattle.std.specs.Prelude.{◌≡◌, ◌≤◌, length};
 ghost use Rattle.definition.specs.Numbers.{show};
 ghost use Rattle.lemmas.specs.Over.{Wrote};
 
-// How many digits the source's `show` gives.
+// How many digits the source's `show` gives. It goes by what is left of the number and counts no index; the library's `ilog10`
+// would have to leave out 0, which has a digit too.
 pub fn show_length(n: u32) -> usize
     ensures { result ≡ length (show n) }
 {
     let mut left = n;
     let mut count: usize = 1;
     while 10 <= left {
-        left = left / 10;
+        left /= 10;
         count += 1;
     }
     count
@@ -26,11 +27,9 @@ pub fn show_into(n: u32, out: &mut [u8]) -> usize
 {
     let count = show_length(n);
     let mut left = n;
-    let mut at = count;
-    while 10 <= left {
-        at -= 1;
+    for at in (1..count).rev() {
         out[at] = b'0' + (left % 10) as u8;
-        left = left / 10;
+        left /= 10;
     }
     out[0] = b'0' + left as u8;
     count

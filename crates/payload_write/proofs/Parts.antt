@@ -2,10 +2,8 @@
 use Prim.Native.Nat.{ℕ, suc, ◌+◌, ◌-◌, ◌≤◌, ◌<◌}
 use mathlib.Core.Path.{◌≡◌, ap, ◌∙◌}
 use mathlib.Core.List.{List, [], ◌∷◌, ◌++◌}
-use native.Mathlib.Nat.{le_refl}
 use native.Mathlib.Omega.{arith}
-use lib.ListN.{length, set, length-set}
-use lib.Seq.{slice, take_all}
+use lib.ListN.{length, drop, set, length-set}
 use borrow.Rule.Slice.PartMut.{mid_of, put_mid}
 use Rattle.definition.specs.Basics.{Bytes}
 use Rattle.definition.specs.Run.{put}
@@ -33,9 +31,10 @@ on_both_sides l tail vs x y n q h e =
     ∙ ap (λ (i : ℕ). set (over (x ∷ vs) l) i y) k
     ∙ write_on (x ∷ vs) l y (omega arith)
 
--- all of some bytes
-pub whole : (s l : Bytes) → over (slice 0 (length s) s) l ≡ over s l
-whole s l = ap (λ (t : Bytes). over t l) (take_all (length s) s (le_refl (length s)))
+-- all of some bytes, copied to the front
+pub copied : {w vs : Bytes} (l : Bytes) → w ≡ vs → w ++ drop (length vs) l ≡ over vs l
+unfolding over
+copied {w} {vs} l e = ap (λ (v : Bytes). v ++ drop (length vs) l) e
 
 -- after the digits of a number there is room for a parenthesis
 pub mark_room : (l tail vs : List ℕ) (x n : ℕ) → length vs + 2 ≤ length l → Wrote vs (mid_of 1 (length l - 1) l) tail n → 1 + n < length (set (put_mid 1 (length l - 1) l tail) 0 x)

@@ -1,5 +1,6 @@
 -- Payloads that are a part of the text or a text of the tables: what their writer asks of those that copy their bytes, and what it
 -- leaves where there are none. Rests on the lengths of descriptions.
+use Rattle.std.specs.Prelude.{Some, None}
 use Prim.Native.Nat.{ℕ, ◌<◌, ◌≤◌}
 use mathlib.Core.Path.{◌≡◌, refl, ◌∙◌}
 use mathlib.Core.List.{[], ◌∷◌}
@@ -7,7 +8,6 @@ use native.Mathlib.Omega.{arith}
 use lib.ListN.{length, get_or}
 use lib.Seq.{length-slice}
 use Rattle.definition.specs.Basics.{Bytes}
-use Rattle.definition.specs.declared.Match.TheVariants.{To, Nothing}
 use Rattle.lemmas.specs.Over.{over}
 use Rattle.table_entries.specs.Entries.{texts}
 use Rattle.payload_write.specs.Asks.{Copies}
@@ -27,7 +27,7 @@ pub text_fits : {s out : Bytes} {k size : ℕ} → ShortFits s (Text k) size out
 text_fits {k = k} {size = size} w = (w.inside, omega (arith, short_long [] (Text k) size w.short, w.room))
 
 -- a short payload has as many bytes as its length says
-short_bytes : (s name f : Bytes) (p : Payload) (n : ℕ) → Inside s p → short_length p ≡ To n → length (bytes_of s name f p) ≡ n
+short_bytes : (s name f : Bytes) (p : Payload) (n : ℕ) → Inside s p → short_length p ≡ Some n → length (bytes_of s name f p) ≡ n
 short_bytes s name f (Part from to) n h e = length-slice from to s h ∙ short_long name (Part from to) n e
 short_bytes s name f (Text k) n h e = short_long name (Text k) n e
 short_bytes s name f (Greater from to) n h e = cc
@@ -50,6 +50,6 @@ nothing_short {s} {out} name f p size z w = over_none (bytes_of s name f p) out 
 -- no other payload is short
 pub no_other : {s out : Bytes} (p : Payload) (size : ℕ) → ShortFits s p size out → Other p → ⊥
 no_other p size w h =
-    let e : short_length p ≡ Nothing = short_other p h in
+    let e : short_length p ≡ None = short_other p h in
     let z : ◌≡◌ {A = ℕ} 0 1 = cc w.short in
     omega arith

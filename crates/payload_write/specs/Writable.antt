@@ -1,8 +1,7 @@
 -- What the writers of payloads ask for. s is the text, name the file's name, f the class file, out the buffer that is lent.
-use Rattle.std.specs.Prelude.{ℕ, ◌≤◌, ◌≡◌, length}
+use Rattle.std.specs.Prelude.{ℕ, ◌≤◌, ◌≡◌, length, Some}
 use Rattle.definition.specs.Basics.{Bytes}
 use Rattle.definition.specs.ClassFile.{class_check}
-use Rattle.definition.specs.declared.Match.TheVariants.{To}
 use Rattle.reader.specs.declared.Payload.{Payload}
 use Rattle.reader.specs.Described.{bytes_of, length_of, short_length, Inside}
 
@@ -15,6 +14,6 @@ pub record Writable (s name f : Bytes) (p : Payload) (out : Bytes) : Type 0 wher
 
 -- the description is one of the short ones, right for the text, and its `size` bytes fit
 pub record ShortFits (s : Bytes) (p : Payload) (size : ℕ) (out : Bytes) : Type 0 where
-  pub short : short_length p ≡ To size
+  pub short : short_length p ≡ Some size
   pub inside : Inside s p
   pub room : size ≤ length out

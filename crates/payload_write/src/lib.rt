@@ -18,7 +18,7 @@ ghost use Rattle.payload_write.specs.Writable.{Writable, ShortFits};
 
 use crate::literals::{copy_part, write_literal};
 use number_value::decimals::show_into;
-use reader::{Payload, span};
+use reader::Payload;
 use table_entries::text_into;
 use trim_lines::write_trimmed;
 
@@ -47,7 +47,7 @@ fn write_file_line(name: &[u8], line: u32, out: &mut [u8])
     ensures { out.new ≡ over (name.now ++ (cps "(" ++ (show line ++ cps ")"))) out.old }
 {
     let n = name.len();
-    copy_part(name, 0, n, out);
+    out[..n].copy_from_slice(name);
     write_mark(line, &mut out[n..]);
 }
 
@@ -56,8 +56,7 @@ fn write_parts(text: &[u8], from: usize, to: usize, contents: usize, end: usize,
     requires { ((to ≤ length text.now) × (end ≤ length text.now)) × ((to - from) + (end - contents) ≤ length out.old) }
     ensures { out.new ≡ over (slice from to text.now ++ slice contents end text.now) out.old }
 {
-    let n = span(from, to);
-    copy_part(text, from, to, out);
+    let n = copy_part(text, from, to, out);
     copy_part(text, contents, end, &mut out[n..]);
 }
 
@@ -72,9 +71,7 @@ pub fn write(text: &[u8], name: &[u8], classes: &[u8], payload: Payload, out: &m
         }
         Payload::Text(k) => text_into(k, out),
         Payload::Greater { from, to } => write_greater(text, from, to, out),
-        Payload::Name => {
-            copy_part(name, 0, name.len(), out);
-        }
+        Payload::Name => out[..name.len()].copy_from_slice(name),
         Payload::Line(n) => {
             show_into(n, out);
         }

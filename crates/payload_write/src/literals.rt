@@ -10,7 +10,7 @@ ghost use Rattle.read_string.specs.Ends.{adds};
 ghost use Rattle.payload_write.specs.Asks.{Copies, Puts, Writes};
 
 use read_string::moves::{Move, end_of, string_move};
-use reader::span;
+use reader::part;
 use utf8::encoding::encode_into;
 
 // Copies the bytes of the text from i up to e to the front of the buffer, and says how many they are.
@@ -18,13 +18,9 @@ pub fn copy_part(text: &[u8], i: usize, e: usize, out: &mut [u8]) -> usize
     requires { Copies text.now i e out.old }
     ensures { Wrote (lexeme text.now i e) out.old out.new result }
 {
-    let n = span(i, e);
-    let mut j = 0;
-    while j < n {
-        out[j] = text[i + j];
-        j += 1;
-    }
-    n
+    let bytes = part(text, i, e);
+    out[..bytes.len()].copy_from_slice(bytes);
+    bytes.len()
 }
 
 // Writes the bytes that a move at i adds to the front of the buffer, and says how many they are.

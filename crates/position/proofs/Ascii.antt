@@ -68,9 +68,6 @@ pub record Joined (s : Bytes) (i bits k : ℕ) : Type 0 where
   pub ascii : bits < 128 → Ascii s i (i + k)
 
 module _ (s : Bytes) (i : ℕ) where
-  pub joined_starts : Joined s i 0 0
-  joined_starts = record { within = omega arith; ascii = λ _ k p q. absurd (omega arith) }
-
   pub joined_goes_on : (bits k : ℕ) → k < 64 → Joined s i bits k → Joined s i (bit_or bits (get_or s (i + k) 0)) (k + 1)
   joined_goes_on bits k l h =
       let before : bits ≤ bit_or bits (get_or s (i + k) 0) = or_left bits (get_or s (i + k) 0) in
@@ -79,6 +76,3 @@ module _ (s : Bytes) (i : ℕ) where
         within = omega arith;
         ascii = λ z j p q. below_more (λ (n : ℕ). i ≤ n → get_or s n 0 < 128) (i + k) (λ n y x. h.ascii (omega arith) n x y) (λ _. omega arith) j (omega arith) p;
       }
-
-  pub joined_ends : (bits k : ℕ) → 64 ≤ k → Joined s i bits k → bits < 128 → Ascii s i (i + 64)
-  joined_ends bits k l h z j p q = h.ascii z j p (omega (arith, h.within))

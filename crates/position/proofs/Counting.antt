@@ -4,9 +4,13 @@
 use Prim.Native.Nat.{ℕ, zero, suc, ◌+◌, ◌-◌, ◌*◌, ◌/◌, ◌%◌, ◌≤◌, ◌<◌}
 use native.Mathlib.Nat.{zero-add, suc-add, add_assoc, add-suc, add-zero}
 use native.Mathlib.Omega.{arith}
-use mathlib.Core.Path.{◌≡◌, refl, sym, ap, ◌∙◌}
+use mathlib.Core.Path.{◌≡◌, refl, sym, ap, ap₂, ◌∙◌}
 use mathlib.Core.Bool.{Bool, true, false}
-use lib.ListN.{get_or}
+use mathlib.Core.List.{[], ◌∷◌, ◌++◌}
+use lib.ListN.{length, get_or, take, drop}
+use lib.Seq.{drop-cons}
+use Rattle.std.specs.Prelude.{sum_by}
+use Rattle.std.proofs.lemmas.List.Sums.{sum_by-cons, sum_by-append}
 use borrow.Author.Tests.{le-leb, lt-leb}
 use Rattle.definition.specs.Basics.{Bytes}
 use Rattle.definition.specs.Position.{Weight, one_each, is_continuation, weight_at, count_chars, col_by, col_of}
@@ -90,43 +94,38 @@ pub column_small : (s : Bytes) (st : State) (i : ℕ) → col_of s st i ≤ st.c
 unfolding col_by
 column_small s st i = omega (arith, count_small s st.bol (i - st.bol))
 
--- ---- the loop that counts, by any weight: n is the count of the bytes from i up to k, and those from k up to j are left
+-- ---- a count made part by part, by any weight (docs/landings/K5.md): n is the count of the bytes from i up to k, and those from k up to j
+-- are left
 
 pub record Counting (w : Weight) (s : Bytes) (i j n k : ℕ) : Type 0 where
   pub on : i ≤ k
   pub left : n + count_chars w s k (j - k) ≡ count_chars w s i (j - i)
 
-module _ (w : Weight) (s : Bytes) (i j : ℕ) where
-  pub counting_starts : Counting w s i j 0 i
-  counting_starts = record { on = omega arith; left = zero-add (count_chars w s i (j - i)) }
-
-  -- it goes on by the bytes from k up to m
-  pub counting_goes_to : (n k m : ℕ) → k ≤ m → m ≤ j → Counting w s i j n k → Counting w s i j (n + count_chars w s k (m - k)) m
-  counting_goes_to n k m h t c =
-      let l = c.left in
-      let f = c.on in
-      record { on = omega arith; left = omega (arith, count_through w s k m j h t) }
-
-  -- and so by one byte
-  pub counting_goes_on : (n k : ℕ) → k < j → Counting w s i j n k → Counting w s i j (n + weight_at w s k) (k + 1)
-  unfolding count_chars
-  counting_goes_on n k h c =
-      let m : k + 1 - k ≡ 1 = omega arith in
-      let e : count_chars w s k (k + 1 - k) ≡ weight_at w s k = ap (count_chars w s k) m ∙ add-zero (weight_at w s k) in
-      rw e at (counting_goes_to n k (k + 1) (omega arith) (omega arith) c)
-
-  pub counting_ends : (n k : ℕ) → j ≤ k → Counting w s i j n k → n ≡ count_chars w s i (j - i)
-  unfolding count_chars
-  counting_ends n k h c =
-      let m : j - k ≡ 0 = omega arith in
-      let l = c.left in
-      omega (arith, ap (count_chars w s k) m)
-
--- the count of characters is at most the bytes that were counted
-pub counted_small : (s : Bytes) (i j n k : ℕ) → k ≤ j → Counting one_each s i j n k → n ≤ k - i
-counted_small s i j n k h c =
+-- it goes on by the bytes from k up to m
+pub counting_goes_to : (w : Weight) (s : Bytes) (i j n k m : ℕ) → k ≤ m → m ≤ j → Counting w s i j n k → Counting w s i j (n + count_chars w s k (m - k)) m
+counting_goes_to w s i j n k m h t c =
     let l = c.left in
-    omega (arith, count_through one_each s i k j c.on h, count_small s i (k - i))
+    let f = c.on in
+    record { on = omega arith; left = omega (arith, count_through w s k m j h t) }
+
+-- ---- the count as a sum over the bytes
+
+-- each byte counts one at most
+pub units_small : (l : Bytes) → sum_by unit l ≤ length l
+units_small [] = omega arith
+units_small (b ∷ l) = omega (arith, sum_by-cons unit b l, unit_small b, units_small l)
+
+-- what bytes count is what a part of them and those after it count
+pub units_cut : (part rest : Bytes) {l : Bytes} → l ≡ part ++ rest → sum_by unit l ≡ sum_by unit part + sum_by unit rest
+units_cut part rest e = ap (sum_by unit) e ∙ sum_by-append unit part rest
+
+-- the count of the bytes from i on is the sum of what they count
+pub count_units : (s : Bytes) (i n : ℕ) → i + n ≤ length s → count_chars one_each s i n ≡ sum_by unit (take n (drop i s))
+unfolding count_chars
+count_units s i zero h = refl
+count_units s i (suc n) h =
+    rw (drop-cons s i 0 (omega arith), sum_by-cons unit)
+    (ap₂ (λ (x y : ℕ). x + y) (unit_is s i) (count_units s (suc i) n (omega arith)))
 
 -- ---- the cache
 

@@ -16,8 +16,8 @@ fn ascii_block(text: &[u8], i: usize) -> bool
     ensures { result ≡ true → Ascii text.now i (i + 64) }
 {
     let mut bits: u8 = 0;
-    for k in 0..64usize {
-        bits |= text[i + k];
+    for b in &text[i..i + 64] {
+        bits |= b;
     }
     bits < 128
 }
@@ -27,16 +27,11 @@ fn ascii_block(text: &[u8], i: usize) -> bool
 pub fn ascii_from(text: &[u8], i: usize) -> usize
     ensures { AsciiTo text.now i result }
 {
-    if text.len() < 64 {
-        return i;
+    if 64 <= text.len() && i <= text.len() - 64 && ascii_block(text, i) {
+        i + 64
+    } else {
+        i
     }
-    if text.len() - 64 < i {
-        return i;
-    }
-    if ascii_block(text, i) {
-        return i + 64;
-    }
-    i
 }
 
 // Whether the byte before `to` is beyond ASCII; where the text ends before that byte, no.
@@ -44,10 +39,7 @@ fn ends_beyond_ascii(text: &[u8], to: usize) -> bool
     requires { 1 ≤ to }
     ensures { result ≡ leb 128 (get_or text.now (to - 1) 0) }
 {
-    if text.len() < to {
-        return false;
-    }
-    128 <= text[to - 1]
+    to <= text.len() && 128 <= text[to - 1]
 }
 
 // A run of ASCII that may hold the bytes from the known offset up to `to`: the one given where it reaches so far, else one that
@@ -57,15 +49,12 @@ pub fn ascii_run(text: &[u8], known: Cache, plain: AsciiRun, to: usize) -> Ascii
     requires { Plain text.now plain }
     ensures { Plain text.now result }
 {
-    if to <= plain.to {
-        return plain;
-    }
-    if ends_beyond_ascii(text, to) {
+    if to <= plain.to || ends_beyond_ascii(text, to) {
         return plain;
     }
     let from = known.off as usize;
     AsciiRun {
-        from: from,
+        from,
         to: ascii_from(text, from),
     }
 }
@@ -74,16 +63,7 @@ pub fn ascii_run(text: &[u8], known: Cache, plain: AsciiRun, to: usize) -> Ascii
 fn covers(plain: AsciiRun, known: Cache, from: u32, to: u32) -> bool
     ensures { result ≡ true → Covers plain known from to }
 {
-    if plain.to < to as usize {
-        return false;
-    }
-    if (known.off as usize) < plain.from {
-        return false;
-    }
-    if from < known.off {
-        return false;
-    }
-    from <= to
+    to as usize <= plain.to && plain.from <= known.off as usize && known.off <= from && from <= to
 }
 
 // The columns of a token's ends: where the run of ASCII covers it they are known by the offsets alone.

@@ -9,11 +9,14 @@
 pub mod ascii_runs; // ascii_runs.rt: the functions
 pub mod columns; // columns.rt: the columns of a token's ends, without a count where the bytes before them are known to be ASCII
 
-ghost use Rattle.std.specs.Prelude.{◌≡◌, ◌-◌, ◌≤◌, ◌<◌, length};
+ghost use Rattle.std.specs.Prelude.{◌≡◌, ◌-◌, ◌≤◌, length, sum_by};
 ghost use Rattle.definition.specs.Position.{count_chars, one_each};
 ghost use Rattle.position.specs.Columns.{unit, Asked, column_at, located};
 
 use definition::{Pos, State};
+
+// The bytes of a part, whose count fits a byte: seven turns of 32.
+const PART_LENGTH: usize = 224;
 
 // The source's `cache_off` and `cache_col`: an offset of the current line, and its column.
 #[derive(Clone, Copy)]
@@ -31,49 +34,33 @@ pub struct Located {
 
 // What a byte counts in a column: 0 from 128 to 191, where it goes on with a character, and 1 otherwise, by arithmetic on its
 // quotient by 64, without a test.
+#[tactic(auto, using(crate::proofs::Counting::by_quotient))]
 fn unit(b: u8) -> u8
     ensures { result ≡ unit b }
 {
     (3 * (b / 64) + 4) / 4 % 2
 }
 
-// How many characters start in the bytes from i up to j. The bytes are 255 at most, so that the sum fits a byte: the compiler
-// then adds up 32 of them in one turn of the loop, where it adds up 8 with a sum of 32 bits.
-fn count_part(text: &[u8], i: usize, j: usize) -> u8
-    requires { (j ≤ length text.now) × (j - i ≤ 255) }
-    ensures { result ≡ count_chars one_each text.now i (j - i) }
+// How many characters start in some bytes. They are 255 at most, so that the sum fits a byte: the compiler then adds up 32 of
+// them in one turn of the loop, where it adds up 8 with a sum of 32 bits.
+fn count_part(part: &[u8]) -> u8
+    requires { length part.now ≤ 255 }
+    ensures { result ≡ sum_by unit part.now }
 {
-    let mut n: u8 = 0;
-    let mut k = i;
-    while k < j {
-        n += unit(text[k]);
-        k += 1;
+    let mut n = 0;
+    for &b in part {
+        n += unit(b);
     }
     n
 }
 
-// Where the part that begins at k ends: 224 bytes on, which are seven turns of 32, or at j where that is nearer.
-fn part_end(k: usize, j: usize) -> usize
-    requires { k < j }
-    ensures { (k < result) × (result ≤ j) × (result - k ≤ 255) }
+// How many characters start in some bytes, however many those are, part by part.
+fn count_parts(bytes: &[u8]) -> usize
+    ensures { result ≡ sum_by unit bytes.now }
 {
-    if j - k <= 224 {
-        return j;
-    }
-    k + 224
-}
-
-// How many characters start in the bytes from i up to j, however many those are, part by part.
-fn count_parts(text: &[u8], i: usize, j: usize) -> usize
-    requires { j ≤ length text.now }
-    ensures { result ≡ count_chars one_each text.now i (j - i) }
-{
-    let mut n: usize = 0;
-    let mut k = i;
-    while k < j {
-        let end = part_end(k, j);
-        n += count_part(text, k, end) as usize;
-        k = end;
+    let mut n = 0;
+    for part in bytes.chunks(PART_LENGTH) {
+        n += usize::from(count_part(part));
     }
     n
 }
@@ -87,10 +74,11 @@ pub fn count_chars(text: &[u8], i: usize, j: usize) -> usize
     if j <= i {
         return 0;
     }
-    if j - i < 32 {
-        return count_part(text, i, j) as usize;
+    let bytes = &text[i..j];
+    if bytes.len() < 32 {
+        return usize::from(count_part(bytes));
     }
-    count_parts(text, i, j)
+    count_parts(bytes)
 }
 
 // The offset asked for, with its column, by value. It counts on from the known offset, or from the line start where the
@@ -99,16 +87,18 @@ fn column_from(text: &[u8], st: State, known: Cache, i: u32) -> Cache
     requires { Asked one_each text.now st known i }
     ensures { result ≡ column_at one_each text.now st i }
 {
-    let mut from = known.off;
-    let mut col = known.col;
-    if i < known.off {
-        from = st.bol;
-        col = st.column;
-    }
-    let n = count_chars(text, from as usize, i as usize);
+    let start = if i < known.off {
+        Cache {
+            off: st.bol,
+            col: st.column,
+        }
+    } else {
+        known
+    };
+    let n = count_chars(text, start.off as usize, i as usize);
     Cache {
         off: i,
-        col: col + n as u32,
+        col: start.col + n as u32,
     }
 }
 
@@ -117,10 +107,8 @@ fn col_of(text: &[u8], st: State, cache: &mut Cache, i: u32) -> u32
     requires { Asked one_each text.now st cache.old i }
     ensures { (result ≡ (column_at one_each text.now st i).col) × (cache.new ≡ column_at one_each text.now st i) }
 {
-    let next = column_from(text, st, *cache, i);
-    cache.off = next.off;
-    cache.col = next.col;
-    next.col
+    *cache = column_from(text, st, *cache, i);
+    cache.col
 }
 
 // What is known once the column of i was asked for, from what was known. The one function that lends a cache: its
@@ -130,11 +118,8 @@ pub fn known_after(text: &[u8], st: State, known: Cache, i: u32) -> Cache
     ensures { result ≡ column_at one_each text.now st i }
 {
     let mut cache = known;
-    let col = col_of(text, st, &mut cache, i);
-    Cache {
-        off: cache.off,
-        col: col,
-    }
+    col_of(text, st, &mut cache, i);
+    cache
 }
 
 // The source's `pos_of`.
@@ -143,12 +128,11 @@ pub fn pos_of(text: &[u8], st: State, known: Cache, i: u32) -> Located
     ensures { result ≡ located text.now st i }
 {
     let here = known_after(text, st, known, i);
-    let pos = Pos {
-        line: st.line,
-        col: here.col,
-    };
     Located {
-        pos: pos,
+        pos: Pos {
+            line: st.line,
+            col: here.col,
+        },
         known: here,
     }
 }

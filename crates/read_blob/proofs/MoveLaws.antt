@@ -1,4 +1,5 @@
 -- What stands at an offset of a blob, from what the code found there. Rests on the laws of runs.
+use Rattle.std.specs.Prelude.{Some, None}
 use Prim.Native.Nat.{ℕ, ◌≤◌, ◌<◌}
 use mathlib.Core.Path.{◌≡◌, sym, ap, ◌∙◌}
 use borrow.Author.Tests.{lt-ltb, le-ltb, le-leb, lt-leb}
@@ -9,7 +10,6 @@ use Rattle.definition.specs.Chars.{is_newline_char}
 use Rattle.definition.specs.Tables.{cps}
 use Rattle.definition.specs.Matchers.{match_lit, match_newline}
 use Rattle.definition.specs.Blob.{blob_stop}
-use Rattle.definition.specs.declared.Match.TheVariants.{To, Nothing}
 use Rattle.star.specs.Stops.{goes_on}
 use Rattle.star.proofs.StopLaws.{one_stop, line_stop}
 use Rattle.read_blob.specs.declared.Move.{Move}
@@ -37,20 +37,20 @@ module _ (s : Bytes) (i : ℕ) where
   unfolding inside_move
   move_open h = rw (inside_move, le-leb _ _ h)
 
-  pub move_line : {nl : ℕ} → i < length s → match_newline s i ≡ To nl → Line nl ≡ inside_move s i
+  pub move_line : {nl : ℕ} → i < length s → match_newline s i ≡ Some nl → Line nl ≡ inside_move s i
   unfolding inside_move
   move_line h e = rw (inside_move, lt-leb _ _ h, e)
 
-  pub move_on : {m : Move} → i < length s → match_newline s i ≡ Nothing → m ≡ contents_move s i → m ≡ inside_move s i
+  pub move_on : {m : Move} → i < length s → match_newline s i ≡ None → m ≡ contents_move s i → m ≡ inside_move s i
   unfolding inside_move
   move_on h e q = rw (inside_move, lt-leb _ _ h, e) q
 
   -- and before that
-  pub move_close : {e : ℕ} → match_lit s (cps "```") i ≡ To e → Close e ≡ blob_move s i
+  pub move_close : {e : ℕ} → match_lit s (cps "```") i ≡ Some e → Close e ≡ blob_move s i
   unfolding blob_move
   move_close q = rw (blob_move, q)
 
-  pub move_inside : {m : Move} → match_lit s (cps "```") i ≡ Nothing → m ≡ inside_move s i → m ≡ blob_move s i
+  pub move_inside : {m : Move} → match_lit s (cps "```") i ≡ None → m ≡ inside_move s i → m ≡ blob_move s i
   unfolding blob_move
   move_inside q h = rw (blob_move, q) h
 
@@ -71,11 +71,11 @@ module _ (s : Bytes) (i : ℕ) where
     lang_run h = rw (lang_move, lt-leb _ _ inside, line, lt-ltb i j h) (ap On (sym line))
 
     -- a line's end
-    pub lang_line : j ≤ i → {nl : ℕ} → match_newline s i ≡ To nl → Line nl ≡ lang_move s i
+    pub lang_line : j ≤ i → {nl : ℕ} → match_newline s i ≡ Some nl → Line nl ≡ lang_move s i
     unfolding lang_move
     lang_line h e = rw (lang_move, lt-leb _ _ inside, line, le-ltb i j h, e)
 
     -- neither
-    pub lang_open : j ≤ i → match_newline s i ≡ Nothing → Open ≡ lang_move s i
+    pub lang_open : j ≤ i → match_newline s i ≡ None → Open ≡ lang_move s i
     unfolding lang_move
     lang_open h e = rw (lang_move, lt-leb _ _ inside, line, le-ltb i j h, e)

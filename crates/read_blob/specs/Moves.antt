@@ -1,12 +1,11 @@
 -- What stands at an offset of a blob, in the definition's order.
-use Rattle.std.specs.Prelude.{ℕ, Bool, true, false, ltb, leb, length, if◌then◌else◌}
+use Rattle.std.specs.Prelude.{ℕ, Bool, true, false, ltb, leb, length, if◌then◌else◌, Some, None}
 use Rattle.definition.specs.Basics.{Bytes}
 use Rattle.definition.specs.Chars.{is_newline_char}
 use Rattle.definition.specs.Tables.{cps}
 use Rattle.definition.specs.Matchers.{match_lit, match_newline}
 use Rattle.definition.specs.Text.{run_end, after}
 use Rattle.definition.specs.Blob.{blob_stop}
-use Rattle.definition.specs.declared.Match.TheVariants.{To, Nothing}
 use Rattle.read_blob.specs.declared.Move.{Move}
 use Rattle.read_blob.specs.declared.Move.TheVariants.{Close, Open, Line, On}
 
@@ -21,11 +20,11 @@ unfoldable pub inside_move : Bytes → ℕ → Move
 inside_move s i =
     elim (leb (length s) i) [
       | true ↦ Open
-      | false ↦ elim (match_newline s i) [ To nl ↦ Line nl | Nothing ↦ contents_move s i ]
+      | false ↦ elim (match_newline s i) [ Some nl ↦ Line nl | None ↦ contents_move s i ]
     ]
 
 unfoldable pub blob_move : Bytes → ℕ → Move
-blob_move s i = elim (match_lit s (cps "```") i) [ To e ↦ Close e | Nothing ↦ inside_move s i ]
+blob_move s i = elim (match_lit s (cps "```") i) [ Some e ↦ Close e | None ↦ inside_move s i ]
 
 -- ---- in another language's text
 
@@ -36,7 +35,7 @@ lang_move s i =
       | true ↦ Close i
       | false ↦ elim (ltb i j) [
         | true ↦ On j
-        | false ↦ elim (match_newline s i) [ To nl ↦ Line nl | Nothing ↦ Open ]
+        | false ↦ elim (match_newline s i) [ Some nl ↦ Line nl | None ↦ Open ]
       ]
     ]
 

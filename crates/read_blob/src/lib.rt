@@ -14,14 +14,15 @@ ghost use Rattle.reader.specs.Described.{Reads, Turns};
 ghost use Rattle.read_blob.specs.Moves.{contents_move, inside_move, blob_move, lang_move, move_at};
 ghost use Rattle.read_blob.specs.Contents.{header_of, kind_of, contents_turn, contents, blob_step, InBlob};
 
+use definition::errors::LexicalError;
 use definition::kinds::{BLOB, USE_LANG_BLOB};
-use definition::{Extra, Item, Match, Pos};
+use definition::{Extra, Item, Pos};
 use match_lit::match_lit;
 use matchers::match_newline;
 use position::pos_of;
 use reader::cursors::{moved, next_line};
 use reader::tokens::error_here;
-use reader::{Cursor, Payload, Read, ReadResult, span};
+use reader::{Cursor, Payload, Read, ReadResult};
 use star::stops::{after, run_end};
 
 // What a blob's header says: the byte where it starts, where its name stands in the text, the position after it, and that of
@@ -63,7 +64,7 @@ fn inside_move(text: &[u8], i: usize) -> Move
     if text.len() <= i {
         return Move::Open;
     }
-    let Match::To(nl) = match_newline(text, i) else {
+    let Some(nl) = match_newline(text, i) else {
         return contents_move(text, i);
     };
     Move::Line(nl)
@@ -73,7 +74,7 @@ fn inside_move(text: &[u8], i: usize) -> Move
 fn blob_move(text: &[u8], i: usize) -> Move
     ensures { result ≡ blob_move text.now i }
 {
-    let Match::To(e) = match_lit(text, b"```", i) else {
+    let Some(e) = match_lit(text, b"```", i) else {
         return inside_move(text, i);
     };
     Move::Close(e)
@@ -90,7 +91,7 @@ fn lang_move(text: &[u8], i: usize) -> Move
     if i < j {
         return Move::On(j);
     }
-    let Match::To(nl) = match_newline(text, i) else {
+    let Some(nl) = match_newline(text, i) else {
         return Move::Open;
     };
     Move::Line(nl)
@@ -130,18 +131,18 @@ fn closed(text: &[u8], header: Header, lang: bool, from: usize, at: Cursor, e: u
     let pos = header.pos;
     let snap = header.snap;
     let extra = Extra::Blob {
-        contents: span(from, i) as u32,
-        pos: pos,
-        snap: snap,
+        contents: i.saturating_sub(from) as u32,
+        pos,
+        snap,
     };
     let next = st.advance(e as u32);
     let item = Item {
         kind: kind_of(lang),
-        sp: sp,
-        ep: ep,
-        length: span(header.from, header.to) as u32,
+        sp,
+        ep,
+        length: header.to.saturating_sub(header.from) as u32,
         comments: next.comments,
-        extra: extra,
+        extra,
         from: header.start,
         to: next.offset,
     };
@@ -152,9 +153,9 @@ fn closed(text: &[u8], header: Header, lang: bool, from: usize, at: Cursor, e: u
         end: i,
     };
     Read {
-        item: item,
-        payload: payload,
-        next: next,
+        item,
+        payload,
+        next,
         known: here,
     }
 }
@@ -173,7 +174,7 @@ fn turn(text: &[u8], name: &[u8], header: Header, lang: bool, from: usize, at: C
             name,
             st,
             known,
-            definition::errors::UNTERMINATED_EXTENSION_SYNTAX,
+            LexicalError::UnterminatedExtensionSyntax as u32,
         )),
         Move::Line(e) => ReadResult::Again(next_line(at, e)),
         Move::On(e) => ReadResult::Again(moved(at, e)),

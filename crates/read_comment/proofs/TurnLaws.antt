@@ -1,4 +1,5 @@
 -- One turn of `comment`, a law for each of its cases. Rests on the definition of `comment_turn`, and on the laws of sound states.
+use Rattle.std.specs.Prelude.{Some}
 use Prim.Native.Nat.{ℕ, ◌+◌, ◌≤◌, ◌<◌}
 use mathlib.Core.Path.{◌≡◌, refl, ◌∙◌}
 use mathlib.Core.Bool.{true, false, ◌&&◌}
@@ -13,7 +14,6 @@ use Rattle.definition.specs.State.{deeper}
 use Rattle.definition.specs.Item.{Step}
 use Rattle.definition.specs.Comment.{comment_stop, terminate, comment_turn}
 use Rattle.definition.specs.declared.State.{State}
-use Rattle.definition.specs.declared.Match.TheVariants.{To}
 use Rattle.laws_progress.proofs.Walks.{Onward, walk_within, star_walks}
 use Rattle.laws_progress.proofs.Scans.{after_walks, two_onward}
 use Rattle.star.specs.Stops.{goes_on}
@@ -76,7 +76,7 @@ module _ {s : Bytes} {at : Cursor} (h : AtStop s at) where
 
   -- A line ends.
   pub turns_line : (from : ℕ) {nl : ℕ} {p : Cursor} → byte_is (ch "(") s at.st.offset && byte_is (ch "*") s (at.st.offset + 1) ≡ false
-      → match_newline s at.st.offset ≡ To nl → p ≡ next_line at nl → TurnsAny s (comment_turn s from at.st) (Again p)
+      → match_newline s at.st.offset ≡ Some nl → p ≡ next_line at nl → TurnsAny s (comment_turn s from at.st) (Again p)
   turns_line from {nl} shut t p =
       rw p (turns_again (comment_turn s from at.st) (next_line at nl) (simp (none, shut, t, comment_turn)) (known_line s at.st nl))
 

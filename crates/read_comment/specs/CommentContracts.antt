@@ -1,13 +1,12 @@
 -- What the reader of a comment's pieces asks, and what its turns give. A comment reads neither the file's name nor the class file: what
 -- is read is the same for all of them.
-use Rattle.std.specs.Prelude.{ℕ, ◌+◌, ◌≤◌, ◌≡◌, false, ◌&&◌, length}
+use Rattle.std.specs.Prelude.{ℕ, ◌+◌, ◌≤◌, ◌≡◌, false, ◌&&◌, length, None}
 use Rattle.definition.specs.Basics.{Bytes, Turn, ch}
 use Rattle.definition.specs.Text.{byte_is, run_end}
 use Rattle.definition.specs.Matchers.{match_newline}
 use Rattle.definition.specs.Item.{Step}
 use Rattle.definition.specs.Comment.{comment_stop}
 use Rattle.definition.specs.declared.State.{State}
-use Rattle.definition.specs.declared.Match.TheVariants.{Nothing}
 use Rattle.reader.specs.Described.{Turns}
 use Rattle.reader.specs.Standing.{Standing}
 use Rattle.reader.specs.declared.Cursor.{Cursor}
@@ -31,7 +30,7 @@ pub record AtStop (s : Bytes) (at : Cursor) : Type 0 where
 pub record AtMark (s : Bytes) (at : Cursor) : Type 0 where
   pub stopped : AtStop s at
   pub shut : byte_is (ch "(") s at.st.offset && byte_is (ch "*") s (at.st.offset + 1) ≡ false
-  pub line : match_newline s at.st.offset ≡ Nothing
+  pub line : match_newline s at.st.offset ≡ None
 
 -- a reader stands after a piece whose text ends at `to`
 pub record Ending (s : Bytes) (to : ℕ) (at : Cursor) : Type 0 where

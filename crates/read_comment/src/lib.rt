@@ -14,7 +14,7 @@ ghost use Rattle.definition.specs.Comment.{terminate, comment_turn, comment};
 ghost use Rattle.read_comment.specs.LineCommentContracts.{ReadsAny};
 ghost use Rattle.read_comment.specs.CommentContracts.{InComment, AtStop, AtMark, Ending, TurnsAny};
 
-use definition::{Extra, Item, Match};
+use definition::{Extra, Item};
 use match_lit::byte_pair;
 use matchers::match_newline;
 use position::pos_of;
@@ -39,25 +39,25 @@ fn terminate(text: &[u8], from: u32, to: usize, closed: bool, at: Cursor) -> Rea
     let ep = here.pos;
     let item = Item {
         kind: 0,
-        sp: sp,
-        ep: ep,
+        sp,
+        ep,
         length: length as u32,
         comments: next.comments,
         extra: Extra::Comment(closed),
-        from: from,
+        from,
         to: next.offset,
     };
     let payload = Payload::Piece {
         from: begin,
-        to: to,
-        width: width,
-        length: length,
+        to,
+        width,
+        length,
     };
     let column = here.known;
     Read {
-        item: item,
-        payload: payload,
-        next: next,
+        item,
+        payload,
+        next,
         known: column,
     }
 }
@@ -92,10 +92,10 @@ fn at_stop(text: &[u8], from: u32, at: Cursor) -> ReadResult
         let known = inside.known;
         return ReadResult::Again(Cursor {
             st: opened.deeper(),
-            known: known,
+            known,
         });
     }
-    let Match::To(nl) = match_newline(text, i) else {
+    let Some(nl) = match_newline(text, i) else {
         return at_mark(text, from, at);
     };
     ReadResult::Again(next_line(at, nl))

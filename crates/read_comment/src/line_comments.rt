@@ -11,7 +11,7 @@ ghost use Rattle.read_comment.specs.LineCommentContracts.{After, ReadsAny};
 
 use definition::{Extra, Item};
 use position::pos_of;
-use reader::{Cursor, Payload, Read, span};
+use reader::{Cursor, Payload, Read};
 use star::stops::run_end;
 
 // The rest of the line from where the reader stands, and before it the bytes from `from` up to there.
@@ -30,23 +30,20 @@ pub fn line_comment(text: &[u8], from: u32, at: Cursor) -> Read
     let ep = end.pos;
     let item = Item {
         kind: 0,
-        sp: sp,
-        ep: ep,
-        length: span(begin, to) as u32,
+        sp,
+        ep,
+        length: to.saturating_sub(begin) as u32,
         comments: next.comments,
         extra: Extra::Comment(true),
-        from: from,
+        from,
         to: next.offset,
     };
-    let payload = Payload::Part {
-        from: begin,
-        to: to,
-    };
+    let payload = Payload::Part { from: begin, to };
     let column = end.known;
     Read {
-        item: item,
-        payload: payload,
-        next: next,
+        item,
+        payload,
+        next,
         known: column,
     }
 }

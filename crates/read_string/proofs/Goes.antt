@@ -1,5 +1,6 @@
 -- Where what stands in a literal ends: after its start, and within the text; and what it adds is no longer than it is. Rests on
 -- the ends of matchers and runs (crate `laws_progress`) and on what escapes stand for.
+use Rattle.std.specs.Prelude.{Some}
 use Prim.Native.Nat.{ℕ, ◌+◌, ◌-◌, ◌<◌}
 use mathlib.Core.Path.{◌≡◌}
 use native.Mathlib.Omega.{arith}
@@ -10,7 +11,6 @@ use Rattle.definition.specs.Chars.{is_anywhite}
 use Rattle.definition.specs.Matchers.{only, match_newline, match_escape}
 use Rattle.definition.specs.Escapes.{unescape, is_surrogate, is_high_half, is_low_half, joined}
 use Rattle.definition.specs.Strings.{string_stop, match_low_half}
-use Rattle.definition.specs.declared.Match.TheVariants.{To}
 use Rattle.lemmas.proofs.Cases.{by_test, by_lt, by_le, by_match}
 use Rattle.utf8.proofs.Character.{encode_size}
 use Rattle.laws_progress.proofs.Walks.{Onward, walk_past, walk_onward, onward_walk, star_walks}
@@ -40,7 +40,7 @@ module _ (s : Bytes) (i : ℕ) where
       )) (escape_ends s e)
 
   -- an escape
-  escape_goes : (e : ℕ) → match_escape s i ≡ To e → Goes s i (escape_move s i e)
+  escape_goes : (e : ℕ) → match_escape s i ≡ Some e → Goes s i (escape_move s i e)
   unfolding escape_move surrogate_move
   escape_goes e q =
       let c = unescape s i in

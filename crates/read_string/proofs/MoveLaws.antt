@@ -1,4 +1,5 @@
 -- What stands at an offset of a literal, from what the code found there. Rests on the laws of bytes and of runs.
+use Rattle.std.specs.Prelude.{Option, Some, None}
 use Prim.Native.Nat.{ℕ, ◌+◌, ◌≤◌, ◌<◌}
 use mathlib.Core.Path.{◌≡◌, sym, ap, ◌∙◌}
 use mathlib.Core.Bool.{true, false}
@@ -11,8 +12,6 @@ use Rattle.definition.specs.Chars.{is_anywhite}
 use Rattle.definition.specs.Matchers.{match_newline, match_escape}
 use Rattle.definition.specs.Escapes.{unescape, is_surrogate, is_high_half, is_low_half, joined}
 use Rattle.definition.specs.Strings.{string_stop, match_low_half}
-use Rattle.definition.specs.declared.Match.{Match}
-use Rattle.definition.specs.declared.Match.TheVariants.{To, Nothing}
 use Rattle.lemmas.proofs.Cases.{by_outcome}
 use Rattle.star.specs.Stops.{goes_on}
 use Rattle.match_lit.proofs.ByteLaws.{has_within, has_past}
@@ -30,7 +29,7 @@ module _ (s : Bytes) (c e : ℕ) where
 
   module _ (high : is_high_half c ≡ true) where
     -- no escape after it
-    pub surrogate_last : match_escape s e ≡ Nothing → Surrogate ≡ surrogate_move s c e
+    pub surrogate_last : match_escape s e ≡ None → Surrogate ≡ surrogate_move s c e
     unfolding surrogate_move match_low_half
     surrogate_last q =
         by_outcome (is_low_half (unescape s e)) (λ t. rw (surrogate_move, high, match_low_half, t, q)) (λ t. rw (surrogate_move, high, match_low_half, t))
@@ -41,7 +40,7 @@ module _ (s : Bytes) (c e : ℕ) where
     surrogate_not_low q t = rw (surrogate_move, high, match_low_half, ← q, t)
 
     -- a low half after it
-    pub surrogate_pair : {l n pair_end : ℕ} → match_escape s e ≡ To pair_end → l ≡ unescape s e → is_low_half l ≡ true → n ≡ joined c l
+    pub surrogate_pair : {l n pair_end : ℕ} → match_escape s e ≡ Some pair_end → l ≡ unescape s e → is_low_half l ≡ true → n ≡ joined c l
         → Char n pair_end ≡ surrogate_move s c e
     unfolding surrogate_move match_low_half
     surrogate_pair {pair_end = end} m q t j = rw (surrogate_move, high, match_low_half, ← q, t, m) (ap (λ (x : ℕ). Char x end) (j ∙ ap (joined c) q))
@@ -84,28 +83,28 @@ module _ (s : Bytes) (i : ℕ) where
   -- ---- neither a run nor a continued line
 
   -- a line's end
-  pub stop_line : {nl : ℕ} → match_newline s i ≡ To nl → Line nl ≡ stop_move s i
+  pub stop_line : {nl : ℕ} → match_newline s i ≡ Some nl → Line nl ≡ stop_move s i
   unfolding stop_move
   stop_line e = rw (stop_move, e)
 
   -- an escape
-  pub stop_escape : {m : Move} (e : ℕ) → match_newline s i ≡ Nothing → match_escape s i ≡ To e → m ≡ escape_move s i e → m ≡ stop_move s i
+  pub stop_escape : {m : Move} (e : ℕ) → match_newline s i ≡ None → match_escape s i ≡ Some e → m ≡ escape_move s i e → m ≡ stop_move s i
   unfolding stop_move
   stop_escape e n q h = rw (stop_move, n, q) h
 
   -- none of both
-  pub stop_last : {m : Move} → match_newline s i ≡ Nothing → match_escape s i ≡ Nothing → m ≡ last_move s i → m ≡ stop_move s i
+  pub stop_last : {m : Move} → match_newline s i ≡ None → match_escape s i ≡ None → m ≡ last_move s i → m ≡ stop_move s i
   unfolding stop_move
   stop_last n q h = rw (stop_move, n, q) h
 
   -- ---- a backslash and a line's end
 
   -- after a backslash
-  pub broken_on : {m : Match} → byte_is (ch "\\") s i ≡ true → m ≡ match_newline s (i + 1) → m ≡ broken_line s i
+  pub broken_on : {m : Option ℕ} → byte_is (ch "\\") s i ≡ true → m ≡ match_newline s (i + 1) → m ≡ broken_line s i
   broken_on t e = rw t e
 
   -- elsewhere
-  pub broken_off : byte_is (ch "\\") s i ≡ false → Nothing ≡ broken_line s i
+  pub broken_off : byte_is (ch "\\") s i ≡ false → None ≡ broken_line s i
   broken_off t = rw t
 
   -- ---- the whole
@@ -122,11 +121,11 @@ module _ (s : Bytes) (i : ℕ) where
     move_run h = rw (string_move, ends, lt-ltb i j h) (ap Copy (sym ends))
 
     -- a continued line
-    pub move_skip : {k : ℕ} (nl : ℕ) → j ≤ i → broken_line s i ≡ To nl → k ≡ star (is_anywhite f) s nl → Skip k ≡ string_move s f i
+    pub move_skip : {k : ℕ} (nl : ℕ) → j ≤ i → broken_line s i ≡ Some nl → k ≡ star (is_anywhite f) s nl → Skip k ≡ string_move s f i
     unfolding string_move
     move_skip nl h e q = rw (string_move, ends, le-ltb i j h, e, q)
 
     -- neither
-    pub move_stop : {m : Move} → j ≤ i → broken_line s i ≡ Nothing → m ≡ stop_move s i → m ≡ string_move s f i
+    pub move_stop : {m : Move} → j ≤ i → broken_line s i ≡ None → m ≡ stop_move s i → m ≡ string_move s f i
     unfolding string_move
     move_stop h e q = rw (string_move, ends, le-ltb i j h, e) q

@@ -18,12 +18,13 @@ ghost use Rattle.read_string.specs.Literal.{closed, does, states, Held};
 ghost use Rattle.read_string.specs.Asks.{Closing, Turning, Reader};
 
 use crate::moves::{Move, added, string_move};
+use definition::errors::LexicalError;
 use definition::kinds::STRING;
 use definition::{Extra, Pos};
 use position::pos_of;
 use reader::cursors::{moved, next_line};
 use reader::tokens::{error_here, token};
-use reader::{Cursor, Payload, Read, ReadResult, span};
+use reader::{Cursor, Payload, Read, ReadResult};
 
 // What a literal of `count` bytes holds that stands in the text from `from` up to `to`: the very bytes there, if they are as
 // many.
@@ -32,11 +33,11 @@ fn contents(from: usize, to: usize, count: usize) -> Payload
     ensures sized { (name : Bytes) → Sized name result }
     ensures describes { (s name f acc : Bytes) → Held s f from to count acc → literal s f from ≡ acc → Describes s name f result acc }
 {
-    if count == span(from, to) {
-        return Payload::Part { from: from, to: to };
+    if count == to.saturating_sub(from) {
+        return Payload::Part { from, to };
     }
     Payload::Literal {
-        from: from,
+        from,
         length: count,
     }
 }
@@ -100,7 +101,7 @@ fn turn(
             name,
             st,
             known,
-            definition::errors::SURROGATE,
+            LexicalError::Surrogate as u32,
         )),
         Move::Close(e) => ReadResult::Done(close(text, name, from, count, at, quote, sp, e)),
         Move::Open => ReadResult::Done(error_here(
@@ -108,7 +109,7 @@ fn turn(
             name,
             st,
             known,
-            definition::errors::UNTERMINATED_STRING,
+            LexicalError::UnterminatedString as u32,
         )),
     }
 }

@@ -9,14 +9,13 @@ ghost use Rattle.definition.specs.ClassFile.{class_check};
 ghost use Rattle.read_string.specs.Moves.{surrogate_move, escape_move, last_move, stop_move, broken_line, string_move};
 ghost use Rattle.read_string.specs.Ends.{added, ends_at};
 
-use definition::Match;
 use escapes::{is_high_half, is_low_half, is_surrogate, joined, unescape};
 use match_lit::byte_is;
 use matchers::match_newline;
 use matchers::quoted::match_escape;
-use reader::span;
-use star::blanks::star_anywhite;
+use star::star_chars;
 use star::stops::run_end;
+use star::tests::White;
 use utf8::encoding::encode_length;
 
 // What stands at an offset of a literal. A number at the end of a variant is the offset after it.
@@ -46,7 +45,7 @@ fn surrogate_move(text: &[u8], c: u32, e: usize) -> Move
     if !is_high_half(c) {
         return Move::Surrogate;
     }
-    let Match::To(pair_end) = match_escape(text, e) else {
+    let Some(pair_end) = match_escape(text, e) else {
         return Move::Surrogate;
     };
     let low = unescape(text, e);
@@ -84,23 +83,23 @@ fn last_move(text: &[u8], i: usize) -> Move
 fn stop_move(text: &[u8], i: usize) -> Move
     ensures { result ≡ stop_move text.now i }
 {
-    if let Match::To(nl) = match_newline(text, i) {
+    if let Some(nl) = match_newline(text, i) {
         return Move::Line(nl);
     }
-    let Match::To(e) = match_escape(text, i) else {
+    let Some(e) = match_escape(text, i) else {
         return last_move(text, i);
     };
     escape_move(text, i, e)
 }
 
 // The end of a backslash and a line's end.
-fn broken_line(text: &[u8], i: usize) -> Match
+fn broken_line(text: &[u8], i: usize) -> Option<usize>
     ensures { result ≡ broken_line text.now i }
 {
     if byte_is(text, i, b'\\') {
         return match_newline(text, i + 1);
     }
-    Match::Nothing
+    None
 }
 
 // What stands at i in a literal.
@@ -112,10 +111,10 @@ pub fn string_move(text: &[u8], classes: &[u8], i: usize) -> Move
     if i < j {
         return Move::Copy(j);
     }
-    let Match::To(nl) = broken_line(text, i) else {
+    let Some(nl) = broken_line(text, i) else {
         return stop_move(text, i);
     };
-    Move::Skip(star_anywhite(text, classes, nl))
+    Move::Skip(star_chars(text, White { file: classes }, nl))
 }
 
 // How many bytes a move at i adds to the literal.
@@ -123,9 +122,9 @@ pub fn added(m: Move, i: usize) -> usize
     ensures { result ≡ added i m }
 {
     match m {
-        Move::Copy(e) => span(i, e),
+        Move::Copy(e) => e.saturating_sub(i),
         Move::Skip(_) => 0,
-        Move::Line(e) => span(i, e),
+        Move::Line(e) => e.saturating_sub(i),
         Move::Char(c, _) => encode_length(c),
         Move::Surrogate => 0,
         Move::Close(_) => 0,

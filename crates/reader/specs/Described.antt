@@ -1,6 +1,6 @@
 -- The bytes that a description stands for, how many they are, and what it is to read what a step of the definition gives.
 -- s is the text, name the file's name, f the class file.
-use Rattle.std.specs.Prelude.{ℕ, ◌+◌, ◌-◌, ◌≤◌, ◌<◌, ◌≡◌, [], ◌∷◌, ◌++◌, map, length, get_or, drop}
+use Rattle.std.specs.Prelude.{ℕ, ◌+◌, ◌-◌, ◌≤◌, ◌<◌, ◌≡◌, [], ◌∷◌, ◌++◌, map, length, get_or, drop, Option, Some, None}
 use Rattle.definition.specs.Basics.{Bytes, ch, Turn, again, done}
 use Rattle.definition.specs.Text.{lexeme}
 use Rattle.definition.specs.Tables.{cps}
@@ -14,8 +14,6 @@ use Rattle.table_entries.specs.Entries.{texts}
 use Rattle.position.specs.Columns.{Known}
 use Rattle.position.specs.declared.Cache.{Cache}
 use Rattle.definition.specs.declared.State.{State}
-use Rattle.definition.specs.declared.Match.{Match}
-use Rattle.definition.specs.declared.Match.TheVariants.{To, Nothing}
 use Rattle.reader.specs.declared.ReadResult.{ReadResult}
 use Rattle.reader.specs.declared.ReadResult.TheVariants.{Done, Again}
 use Rattle.reader.specs.declared.Payload.{Payload}
@@ -55,16 +53,16 @@ length_of name (Piece from to width n) = n
 length_of name (Blob from to contents end) = (to - from) + (end - contents)
 
 -- how many they are where they are a part of the text or a text of the table, which are most payloads
-abbrev pub short_length : Payload → Match
-short_length (Part from to) = To (to - from)
-short_length (Text k) = To (length (get_or texts k []))
-short_length (Greater from to) = Nothing
-short_length Name = Nothing
-short_length (Line n) = Nothing
-short_length (FileLine n) = Nothing
-short_length (Literal from n) = Nothing
-short_length (Piece from to width n) = Nothing
-short_length (Blob from to contents end) = Nothing
+abbrev pub short_length : Payload → Option ℕ
+short_length (Part from to) = Some (to - from)
+short_length (Text k) = Some (length (get_or texts k []))
+short_length (Greater from to) = None
+short_length Name = None
+short_length (Line n) = None
+short_length (FileLine n) = None
+short_length (Literal from n) = None
+short_length (Piece from to width n) = None
+short_length (Blob from to contents end) = None
 
 -- its text is one of the table
 abbrev pub Listed : Payload → Type 0

@@ -15,7 +15,7 @@ pub fn moved(at: Cursor, e: usize) -> Cursor
     let known = at.known;
     Cursor {
         st: st.advance(e as u32),
-        known: known,
+        known,
     }
 }
 
@@ -32,6 +32,6 @@ pub fn next_line(at: Cursor, e: usize) -> Cursor
     };
     Cursor {
         st: read.new_line(),
-        known: known,
+        known,
     }
 }

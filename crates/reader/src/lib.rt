@@ -11,10 +11,11 @@ pub mod actions; // actions.rt: what a rule may say of a choice that is read who
 pub mod cursors; // cursors.rt: where a reader stands after it reads on
 pub mod tokens; // tokens.rt: tokens and errors as readers answer them
 
-ghost use Rattle.std.specs.Prelude.{◌≡◌, ◌<◌, ◌-◌};
+ghost use Rattle.std.specs.Prelude.{◌≡◌, ◌≤◌, length};
+ghost use Rattle.std.proofs.Math.Seq.{slice};
 ghost use Rattle.reader.specs.Described.{length_of, short_length, Listed, Measurable};
 
-use definition::{Item, Match, State};
+use definition::{Item, State};
 use number_value::decimals::show_length;
 use position::Cache;
 use table_entries::text_length;
@@ -77,21 +78,20 @@ pub struct Cursor {
     pub known: Cache,
 }
 
-// What a turn of a reader answers: what it has read, or where it goes on.
+// What a turn of a reader answers: what it has read, or where it goes on, as the definition's `done` and `again`. (Neither is an error,
+// as in a Result, and neither leaves a function early, as in the library's ControlFlow.)
 #[derive(Clone, Copy)]
 pub enum ReadResult {
     Done(Read),
     Again(Cursor),
 }
 
-// How many bytes there are from `from` up to `to`.
-pub fn span(from: usize, to: usize) -> usize
-    ensures { result ≡ to - from }
+// The bytes of a text from `from` up to `to`; none where `from` is past `to`.
+pub fn part(text: &[u8], from: usize, to: usize) -> &[u8]
+    requires { to ≤ length text.now }
+    ensures { result.now ≡ slice from to text.now }
 {
-    if from < to {
-        return to - from;
-    }
-    0
+    &text[from.min(to)..to]
 }
 
 // How many bytes a payload has.
@@ -100,9 +100,9 @@ pub fn length_of(name: &[u8], payload: Payload) -> usize
     ensures { result ≡ length_of name.now payload }
 {
     match payload {
-        Payload::Part { from, to } => span(from, to),
+        Payload::Part { from, to } => to.saturating_sub(from),
         Payload::Text(k) => text_length(k),
-        Payload::Greater { from, to } => 1 + span(from, to),
+        Payload::Greater { from, to } => 1 + to.saturating_sub(from),
         Payload::Name => name.len(),
         Payload::Line(n) => show_length(n),
         Payload::FileLine(n) => name.len() + (show_length(n) + 2),
@@ -118,18 +118,18 @@ pub fn length_of(name: &[u8], payload: Payload) -> usize
             to,
             contents,
             end,
-        } => span(from, to) + span(contents, end),
+        } => to.saturating_sub(from) + end.saturating_sub(contents),
     }
 }
 
 // How many bytes a payload has that is a part of the text or a text of the tables; nothing for the others.
-pub fn short_length(payload: Payload) -> Match
+pub fn short_length(payload: Payload) -> Option<usize>
     requires { Listed payload }
     ensures { result ≡ short_length payload }
 {
     match payload {
-        Payload::Part { from, to } => Match::To(span(from, to)),
-        Payload::Text(k) => Match::To(text_length(k)),
-        _ => Match::Nothing,
+        Payload::Part { from, to } => Some(to.saturating_sub(from)),
+        Payload::Text(k) => Some(text_length(k)),
+        _ => None,
     }
 }

@@ -28,20 +28,20 @@ pub fn token(
 {
     let length = length_of(name, payload) as u32;
     let item = Item {
-        kind: kind,
-        sp: sp,
-        ep: ep,
-        length: length,
+        kind,
+        sp,
+        ep,
+        length,
         comments: next.comments,
-        extra: extra,
-        from: from,
+        extra,
+        from,
         to: next.offset,
     };
     Read {
-        item: item,
-        payload: payload,
-        next: next,
-        known: known,
+        item,
+        payload,
+        next,
+        known,
     }
 }
 
@@ -60,11 +60,7 @@ pub fn lex_error(
     ensures { (f bytes : Bytes) → Describes text.now name.now f payload bytes → Reads text.now name.now f (lex_error text.now st number bytes p1 p2) result }
 {
     let here = pos_of(text, st, known, st.offset);
-    let extra = Extra::LexError {
-        number: number,
-        p1: p1,
-        p2: p2,
-    };
+    let extra = Extra::LexError { number, p1, p2 };
     token(
         name,
         ERROR,

@@ -3,13 +3,14 @@
 #![tactic(auto)]
 
 ghost use Rattle.std.specs.Prelude.{◌≡◌, ◌≤◌, length};
-ghost use Rattle.definition.specs.Item.{mark, record_size, words};
+ghost use Rattle.definition.specs.Item.{record_size, words};
 ghost use Rattle.lemmas.specs.Over.{over};
 ghost use Rattle.record.specs.Numbers.{extra_numbers, numbers, plain_item};
 
 use definition::{Extra, Item, Pos};
 
-// Word 0 and words 9 to 14, which go by what an item holds besides its kind, its range and its payload.
+// Word 0 and words 9 to 14, which go by what an item holds besides its kind, its range and its payload. They are document 01's numbers,
+// as they stand in the record.
 #[derive(Clone, Copy)]
 pub struct ExtraNumbers {
     pub sort: u32,
@@ -21,38 +22,27 @@ pub struct ExtraNumbers {
     pub to_col: u32,
 }
 
-// A comment's mark: 1 closed, 0 unclosed.
-fn mark(closed: bool) -> u32
-    ensures { result ≡ mark closed }
-{
-    if closed {
-        return 1;
-    }
-    0
-}
+// Those of a token that holds nothing besides.
+const NOTHING: ExtraNumbers = ExtraNumbers {
+    sort: 1,
+    tag: 0,
+    first: 0,
+    line: 0,
+    col: 0,
+    to_line: 0,
+    to_col: 0,
+};
 
-// The item's sort (1 for a token, 2 for a comment), a tag, a number, and two positions.
+// The item's sort (1 for a token, 2 for a comment), a tag (for a comment 1 closed, 0 unclosed), a number, and two positions.
 fn extra_numbers(extra: Extra) -> ExtraNumbers
     ensures { result ≡ extra_numbers extra }
 {
     match extra {
-        Extra::NoExtra => ExtraNumbers {
-            sort: 1,
-            tag: 0,
-            first: 0,
-            line: 0,
-            col: 0,
-            to_line: 0,
-            to_col: 0,
-        },
+        Extra::NoExtra => NOTHING,
         Extra::CharLit(c) => ExtraNumbers {
-            sort: 1,
             tag: 1,
             first: c,
-            line: 0,
-            col: 0,
-            to_line: 0,
-            to_col: 0,
+            ..NOTHING
         },
         Extra::Blob {
             contents,
@@ -78,12 +68,8 @@ fn extra_numbers(extra: Extra) -> ExtraNumbers
         },
         Extra::Comment(closed) => ExtraNumbers {
             sort: 2,
-            tag: mark(closed),
-            first: 0,
-            line: 0,
-            col: 0,
-            to_line: 0,
-            to_col: 0,
+            tag: u32::from(closed),
+            ..NOTHING
         },
     }
 }
@@ -148,7 +134,7 @@ pub fn write_record(item: Item, used: u32, out: &mut [u32])
 }
 
 // Writes the record of a token that holds nothing besides its kind, its range and its payload. The parts come one by one, and
-// what `extra_numbers` gives for nothing besides is spelled out, so that no item is built for it.
+// what `extra_numbers` gives for nothing besides is a constant, so that no item is built for it.
 pub fn write_token(
     kind: u32,
     sp: Pos,
@@ -163,14 +149,5 @@ pub fn write_token(
     requires { record_size ≤ length out.old }
     ensures { out.new ≡ over (words (plain_item kind sp ep size comments from to) used) out.old }
 {
-    let nothing = ExtraNumbers {
-        sort: 1,
-        tag: 0,
-        first: 0,
-        line: 0,
-        col: 0,
-        to_line: 0,
-        to_col: 0,
-    };
-    write_words(kind, sp, ep, used, size, comments, nothing, from, to, out);
+    write_words(kind, sp, ep, used, size, comments, NOTHING, from, to, out);
 }

@@ -1,4 +1,4 @@
--- The definition's refusals, one by one, as pairs of the code's answer. Rests on nothing but the definition.
+-- The definition's refusals, one by one, as pairs of number and offset. Rests on nothing but the definition.
 use Prim.Native.Nat.{ℕ, ◌≤◌, ◌<◌}
 use mathlib.Core.Path.{◌≡◌, ap}
 use mathlib.Core.Bool.{true, false}
@@ -10,12 +10,7 @@ use Rattle.definition.specs.ClassFile.{class_check}
 use Rattle.definition.specs.State.{sound}
 use Rattle.definition.specs.Run.{text_too_long, name_too_long, refusal}
 use Rattle.definition.specs.declared.State.{State}
-use Rattle.refusal.specs.declared.Refused.{Refused}
 use Rattle.refusal.specs.Refusing.{text_refusal}
-
--- the pair of an answer
-pub pair : (r : Refused) {n o : ℕ} → r ≡ record { number = n; offset = o } → ◌≡◌ {A = ℕ × ℕ} (r.number, r.offset) (n, o)
-pair r e = ap (λ (x : Refused). (x.number, x.offset)) e
 
 module _ (s : Bytes) (st : State) where
   -- ill-formed UTF-8
@@ -49,7 +44,7 @@ module _ (s : Bytes) (st : State) where
         bad_classes {n} e h =
             rw (refusal, text_too_long, le-ltb 1048576 (length s) short, name_too_long, le-ltb 4096 (length name) fits, ← e, ne_eqb n 0 h) (ap (λ (m : ℕ). (m, 0)) e)
 
-        pub good_classes : {n : ℕ} → n ≡ class_check f → n ≡ 0 → text_refusal s st ≡ refusal s name f st
+        pub good_classes : class_check f ≡ 0 → text_refusal s st ≡ refusal s name f st
         unfolding refusal text_too_long name_too_long text_refusal
-        good_classes {n} e h =
-            rw (refusal, text_too_long, le-ltb 1048576 (length s) short, name_too_long, le-ltb 4096 (length name) fits, ← e, eq-eqb n 0 h)
+        good_classes h =
+            rw (refusal, text_too_long, le-ltb 1048576 (length s) short, name_too_long, le-ltb 4096 (length name) fits, eq-eqb (class_check f) 0 h)

@@ -1,4 +1,4 @@
--- The second run's refusals, one by one, as pairs of the code's answer. Rests on nothing but the definition.
+-- The second run's refusals, one by one, as pairs of number and offset. Rests on nothing but the definition.
 use Prim.Native.Nat.{ℕ}
 use mathlib.Core.Path.{◌≡◌}
 use mathlib.Core.Bool.{Bool, true, false}

@@ -4,11 +4,13 @@
 #![tactic(auto)]
 
 ghost use Rattle.std.specs.Prelude.{◌≡◌, ◌≤◌, length};
+ghost use Rattle.definition.specs.Answers.{refusal_said};
 ghost use Rattle.definition.specs.Run.{refusal};
 ghost use Rattle.definition.specs.Utf16.{line_zero, utf16_refusal};
 ghost use Rattle.refusal.specs.Refusing.{text_refusal};
 
 use class_file::check::class_check;
+use definition::answers::RunRefusal;
 use definition::{State, Utf16State};
 use state::{by_second, sound};
 use utf8::characters::first_bad;
@@ -21,51 +23,32 @@ const LONGEST_NAME: usize = 4096;
 // The mode of a state inside a comment.
 const IN_COMMENT: u32 = 1;
 
-// A refusal number, and for ill-formed UTF-8 the first offset where no legal sequence starts; 0 and 0 where nothing is refused.
-#[derive(Clone, Copy)]
-pub struct Refused {
-    pub number: u32,
-    pub offset: u32,
-}
-
-fn refuse(number: u32, offset: u32) -> Refused
-    ensures { result ≡ record { number = number; offset = offset } }
-{
-    Refused {
-        number: number,
-        offset: offset,
-    }
-}
-
 // The refusals that ask for the text's bytes, which is not too long.
-fn text_refusal(text: &[u8], st: State) -> Refused
+fn text_refusal(text: &[u8], st: State) -> Result<(), RunRefusal>
     requires { length text.now ≤ 1048576 }
-    ensures { (result.number, result.offset) ≡ text_refusal text.now st }
+    ensures { refusal_said result ≡ text_refusal text.now st }
 {
     let bad = first_bad(text);
     if bad < text.len() {
-        return refuse(8, bad as u32);
+        return Err(RunRefusal::IllFormed { offset: bad as u32 });
     }
     if sound(text, st) {
-        return refuse(0, 0);
+        return Ok(());
     }
-    refuse(9, 0)
+    Err(RunRefusal::UnsoundState)
 }
 
 // The first of the refusals that holds.
-pub fn refusal(text: &[u8], name: &[u8], classes: &[u8], st: State) -> Refused
-    ensures { (result.number, result.offset) ≡ refusal text.now name.now classes.now st }
+pub fn refusal(text: &[u8], name: &[u8], classes: &[u8], st: State) -> Result<(), RunRefusal>
+    ensures { refusal_said result ≡ refusal text.now name.now classes.now st }
 {
     if LONGEST_TEXT < text.len() {
-        return refuse(6, 0);
+        return Err(RunRefusal::TextLength);
     }
     if LONGEST_NAME < name.len() {
-        return refuse(7, 0);
+        return Err(RunRefusal::NameLength);
     }
-    let checked = class_check(classes);
-    if checked != 0 {
-        return refuse(checked, 0);
-    }
+    class_check(classes)?;
     text_refusal(text, st)
 }
 
@@ -83,19 +66,21 @@ fn line_zero(g: Utf16State) -> bool
     false
 }
 
-// The same for the second run: first what the first run refuses; then 9 for a second column, which obeys every rule of the first; then 10.
-pub fn utf16_refusal(text: &[u8], name: &[u8], classes: &[u8], g: Utf16State) -> Refused
-    ensures { (result.number, result.offset) ≡ utf16_refusal text.now name.now classes.now g }
+// The same for the second run: first what the first run refuses; then a second column, which obeys every rule of the first; then a line 0.
+pub fn utf16_refusal(
+    text: &[u8],
+    name: &[u8],
+    classes: &[u8],
+    g: Utf16State,
+) -> Result<(), RunRefusal>
+    ensures { refusal_said result ≡ utf16_refusal text.now name.now classes.now g }
 {
-    let first = refusal(text, name, classes, g.first);
-    if first.number != 0 {
-        return first;
-    }
+    refusal(text, name, classes, g.first)?;
     if !sound(text, by_second(g)) {
-        return refuse(9, 0);
+        return Err(RunRefusal::UnsoundState);
     }
     if line_zero(g) {
-        return refuse(10, 0);
+        return Err(RunRefusal::LineZero);
     }
-    refuse(0, 0)
+    Ok(())
 }

@@ -12,6 +12,7 @@ ghost use Rattle.definition.specs.Token.{number, uint8, bad_number};
 ghost use Rattle.reader.specs.Actions.{Chose, Rules, RulesOf};
 ghost use Rattle.rule_numbers.specs.Cleaned.{CleanedAt};
 
+use definition::errors::LexicalError;
 use definition::kinds::UINT8;
 use number_value::above_255;
 use number_value::cleaning::{Part, clean_number};
@@ -43,10 +44,10 @@ pub fn number(text: &[u8], at: Cursor, e: usize, kind: u32) -> Action
         to: part.to,
     };
     Action::Token {
-        kind: kind,
+        kind,
         start: i,
         end: e,
-        payload: payload,
+        payload,
     }
 }
 
@@ -62,7 +63,7 @@ pub fn uint8(text: &[u8], at: Cursor, e: usize) -> Action
     let to = part.to;
     if above_255(&text[from..to]) {
         return Action::Error {
-            number: definition::errors::OUT_OF_RANGE_CHARACTER,
+            number: LexicalError::OutOfRangeCharacter as u32,
             payload: Payload::Part { from: 0, to: 0 },
         };
     }
@@ -70,7 +71,7 @@ pub fn uint8(text: &[u8], at: Cursor, e: usize) -> Action
         kind: UINT8,
         start: i,
         end: e,
-        payload: Payload::Part { from: from, to: to },
+        payload: Payload::Part { from, to },
     }
 }
 
@@ -84,7 +85,7 @@ pub fn bad_number(at: Cursor, e: usize) -> Action
         to: e,
     };
     Action::Error {
-        number: definition::errors::INVALID_NUMBER,
+        number: LexicalError::InvalidNumber as u32,
         payload: lexeme,
     }
 }

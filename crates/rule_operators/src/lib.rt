@@ -27,7 +27,7 @@ pub fn kw_op(text: &[u8], at: Cursor, e: usize, word: usize) -> Action
     let i = st.offset as usize;
     let to = no_comment(text, i, e);
     let from = i + kw_op_length(word);
-    let rest = Payload::Part { from: from, to: to };
+    let rest = Payload::Part { from, to };
     if from < to {
         return Action::Token {
             kind: kw_op_kind(word),
@@ -56,7 +56,7 @@ pub fn gt(text: &[u8], at: Cursor, e: usize) -> Action
         kind: OPINFIX0C,
         start: j,
         end: to,
-        payload: Payload::Greater { from: j, to: to },
+        payload: Payload::Greater { from: j, to },
     }
 }
 
@@ -72,7 +72,7 @@ pub fn op(text: &[u8], at: Cursor, e: usize, kind: u32) -> Action
         return Action::LineComment;
     }
     Action::Token {
-        kind: kind,
+        kind,
         start: i,
         end: left,
         payload: Payload::Part { from: i, to: left },

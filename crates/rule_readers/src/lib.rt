@@ -81,8 +81,8 @@ fn header_at(text: &[u8], at: Cursor, e: usize, n: usize) -> Header
         start: st.offset,
         from: st.offset as usize + n,
         to: e,
-        pos: pos,
-        snap: snap,
+        pos,
+        snap,
     }
 }
 

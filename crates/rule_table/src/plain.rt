@@ -9,7 +9,7 @@ ghost use Rattle.rule_table.specs.Tabled.{Tabled};
 use crate::table::kind_of;
 use definition::Choice;
 use reader::actions::Action;
-use reader::{Cursor, Payload, span};
+use reader::{Cursor, Payload};
 use table_early::early_kind;
 use table_entries::kind_at;
 
@@ -56,12 +56,12 @@ fn plain_payload(at: Cursor, choice: Choice) -> Payload
         // RReal
         26 => Payload::Part {
             from: i,
-            to: span(1, e),
+            to: e.saturating_sub(1),
         },
         // RBacktickIdent
         32 => Payload::Part {
             from: i + 2,
-            to: span(2, e),
+            to: e.saturating_sub(2),
         },
         // ROpToken
         36 => Payload::Text(OP_TOKENS + choice.word),
@@ -82,9 +82,9 @@ pub fn plain(at: Cursor, choice: Choice) -> Action
     let kind = plain_kind(choice);
     let payload = plain_payload(at, choice);
     Action::Token {
-        kind: kind,
+        kind,
         start: st.offset as usize,
         end: choice.end,
-        payload: payload,
+        payload,
     }
 }

@@ -93,7 +93,8 @@ pub fn rule_of(place: u32) -> Rule
     }
 }
 
-// The kind of a place that decides it by itself; 0 for the others.
+// The kind of a place that decides it by itself; 0 for the others, which nobody asks for: an Option would be taken apart where it is
+// never None.
 pub fn kind_of(place: u32) -> u32
     requires { place < 51 }
     ensures { result ≡ kind_of place }

@@ -1,4 +1,5 @@
 -- A lexeme that is found in a table gives the token of the table's entry. Rests on the laws of look-ups.
+use Rattle.std.specs.Prelude.{Option, Some, None}
 use Prim.Native.Nat.{ℕ, suc, ◌+◌, ◌-◌, ◌≤◌, ◌<◌}
 use Prim.Native.String.{String}
 use native.Mathlib.Nat.{le_of_lt}
@@ -6,7 +7,6 @@ use native.Mathlib.Omega.{arith}
 use mathlib.Core.Path.{◌≡◌, refl, sym, ap, subst, ◌∙◌}
 use mathlib.Core.Bool.{Bool, true, false}
 use mathlib.Core.List.{List, [], ◌∷◌, ◌++◌, map}
-use mathlib.Core.Option.{none, some}
 use lib.ListN.{length, get_or, take, drop, length-map, get_or-append, get_or-map}
 use lib.Seq.{get_or-append-add}
 use Rattle.definition.specs.Basics.{Bytes, same}
@@ -19,8 +19,6 @@ use Rattle.definition.specs.declared.State.{State}
 use Rattle.lemmas.proofs.Cases.{by_test}
 use Rattle.table_words.specs.Words.{spelled}
 use Rattle.table_keywords.specs.Places.{place}
-use Rattle.table_keywords.specs.declared.Word.{Word}
-use Rattle.table_keywords.specs.declared.Word.TheVariants.{At, Nowhere}
 use Rattle.table_keywords.proofs.Finds.{entry_at, found}
 use Rattle.table_entries.specs.Entries.{entries, texts}
 use Rattle.table_entries.proofs.TextLaws.{short_at}
@@ -101,9 +99,9 @@ pub record Inside (n m : ℕ) (w : ℕ) : Type 0 where
   pub from : n ≤ w
   pub to : w < n + m
 
-abbrev Between : ℕ → ℕ → Word → Type 0
-Between n m (At w) = Inside n m w
-Between n m Nowhere = Unit {0}
+abbrev Between : ℕ → ℕ → Option ℕ → Type 0
+Between n m (Some w) = Inside n m w
+Between n m None = Unit {0}
 
 place_between : (n : ℕ) (id : Bytes) (ws : List Bytes) → Between n (length ws) (place n id ws)
 unfolding place
@@ -111,17 +109,17 @@ place_between n id [] = tt
 place_between n id (w ∷ ws) =
     by_test (Between n (suc (length ws))) (same w id) (λ _. record { from = omega arith; to = omega arith }) (λ _. wider (place (suc n) id ws) (place_between (suc n) id ws))
   where
-    wider : (x : Word) → Between (suc n) (length ws) x → Between n (suc (length ws)) x
-    wider (At v) h = record { from = omega (arith, h.from); to = omega (arith, h.to) }
-    wider Nowhere h = tt
+    wider : (x : Option ℕ) → Between (suc n) (length ws) x → Between n (suc (length ws)) x
+    wider (Some v) h = record { from = omega (arith, h.from); to = omega (arith, h.to) }
+    wider None h = tt
 
 -- so it is one of the words
-pub placed : {word : Word} (n : ℕ) (id : Bytes) (table : List Entry) → n + length (spelled table) ≤ 119 → word ≡ place n id (spelled table) → Placed word
+pub placed : {word : Option ℕ} (n : ℕ) (id : Bytes) (table : List Entry) → n + length (spelled table) ≤ 119 → word ≡ place n id (spelled table) → Placed word
 placed {word} n id table l q = subst Placed (sym q) (go (place n id (spelled table)) (place_between n id (spelled table)))
   where
-    go : (x : Word) → Between n (length (spelled table)) x → Placed x
-    go (At w) h = omega (arith, h.to)
-    go Nowhere h = tt
+    go : (x : Option ℕ) → Between n (length (spelled table)) x → Placed x
+    go (Some w) h = omega (arith, h.to)
+    go None h = tt
 
 module _ (s : Bytes) (st : State) (e : ℕ) where
   -- what the definition makes of an entry that was found, or of none
@@ -130,15 +128,15 @@ module _ (s : Bytes) (st : State) (e : ℕ) where
   table_turn n table x h l =
       rw (finish_word, found n (lexeme s st.offset e) table) (go (place n (lexeme s st.offset e) (spelled table)) (place_between n (lexeme s st.offset e) (spelled table)))
     where
-      go : (w : Word) → Between n (length (spelled table)) w
-          → elim (entry_at n table w) [ some y ↦ finish_entry s st e y | none ↦ finish s st e (kind x) (lexeme s st.offset e) ] ≡ worded s st e w (kind x)
-      go (At w) b =
+      go : (w : Option ℕ) → Between n (length (spelled table)) w
+          → elim (entry_at n table w) [ Some y ↦ finish_entry s st e y | None ↦ finish s st e (kind x) (lexeme s st.offset e) ] ≡ worded s st e w (kind x)
+      go (Some w) b =
           let m : length (spelled table) ≡ length table = length-map table (λ (y : Entry). cps y.word) in
           let q : n + (w - n) ≡ w = omega (arith, b.from) in
           let p : entry entries w ≡ entry table (w - n) =
           ap (λ (k : ℕ). entry entries k) (sym q) ∙ stored_entry h (w - n) (omega (arith, b.from, b.to)) in
           rw (entry_text w (omega (arith, b.to)), p)
-      go Nowhere b = refl
+      go None b = refl
 
 -- whether the prefix is reserved
 reserved_test : (s : Bytes) (i e : ℕ) {t : Bool} → i ≤ e → t ≡ starts_with (take (e - i) (drop i s)) reserved_prefix → starts_with (lexeme s i e) reserved_prefix ≡ t
@@ -150,22 +148,22 @@ module _ {s : Bytes} {at : Cursor} {e : ℕ} (h : Chose s at e) where
 
   module _ (name : Bytes) where
     -- an action on the word that a table has for the lexeme stands for what the definition gives
-    pub table_rules : {r : Action} (word : Word) (k n : ℕ) (table : List Entry) (x : String) → Stored n table → n + length table ≤ 180
+    pub table_rules : {r : Action} (word : Option ℕ) (k n : ℕ) (table : List Entry) (x : String) → Stored n table → n + length table ≤ 180
         → word ≡ place n (take (e - st.offset) (drop st.offset s)) (spelled table) → k ≡ kind x
         → Rules s name at e (worded s st e word k) r → Rules s name at e (finish_word s st e table x) r
     table_rules word k n table x stored l q p d =
         let id = lexeme s st.offset e in
         let found_at : word ≡ place n id (spelled table) = q ∙ ap (λ (id : Bytes). place n id (spelled table)) (part_is st.offset e s (le_of_lt h.onward.past)) in
         rules_same
-        (table_turn s st e n table x stored l ∙ ap (λ (m : ℕ). worded s st e (place n id (spelled table)) m) (sym p) ∙ ap (λ (w : Word). worded s st e w k) (sym found_at)) d
+        (table_turn s st e n table x stored l ∙ ap (λ (m : ℕ). worded s st e (place n id (spelled table)) m) (sym p) ∙ ap (λ (w : Option ℕ). worded s st e w k) (sym found_at)) d
 
     -- a word of the tables, or none
-    pub word_rules : (word : Word) (k given kd : ℕ) → k < 119 → word ≡ At k → kd ≡ kind (entry entries k).kind
+    pub word_rules : (word : Option ℕ) (k given kd : ℕ) → k < 119 → word ≡ Some k → kd ≡ kind (entry entries k).kind
         → Rules s name at e (worded s st e word given) (Token kd st.offset e (Text k))
     word_rules word k given kd l q p =
         rw q (token_rules (get_or texts k []) (λ f. text_describes (omega arith)) (spans h (text_sized (omega arith))) (rw p refl))
 
-    pub lexeme_rules : (word : Word) (kd : ℕ) → word ≡ Nowhere → Rules s name at e (worded s st e word kd) (Token kd st.offset e (Part st.offset e))
+    pub lexeme_rules : (word : Option ℕ) (kd : ℕ) → word ≡ None → Rules s name at e (worded s st e word kd) (Token kd st.offset e (Part st.offset e))
     lexeme_rules word kd q =
         rw q
         (token_rules (lexeme s st.offset e) (λ f. part_describes s name f st.offset e h.onward.within) (spans h (part_sized h h.onward.within)) refl)

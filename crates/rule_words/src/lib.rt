@@ -12,30 +12,31 @@ ghost use Rattle.definition.specs.Token.{ident, finish_word};
 ghost use Rattle.reader.specs.Actions.{Chose, Rules};
 ghost use Rattle.rule_words.specs.Worded.{worded, Placed};
 
+use definition::errors::LexicalError;
 use definition::kinds::{IDENT, NAME, OPINFIX4};
 use reader::actions::Action;
 use reader::{Cursor, Payload};
 use table_entries::kind_at;
 use table_keywords::constructors::constructor;
 use table_keywords::reserved_prefix::reserved;
-use table_keywords::{Word, keyword, uoperator};
+use table_keywords::{keyword, uoperator};
 
 // The token of a word of the tables; where it is none of them, the lexeme and the kind given.
-fn worded(at: Cursor, e: usize, word: Word, kind: u32) -> Action
+fn worded(at: Cursor, e: usize, word: Option<usize>, kind: u32) -> Action
     requires { Placed word }
     ensures { (s name : Bytes) → Chose s at e → Rules s name at e (worded s at.st e word kind) result }
 {
     let st = at.st;
     let i = st.offset as usize;
     match word {
-        Word::At(k) => Action::Token {
+        Some(k) => Action::Token {
             kind: kind_at(k),
             start: i,
             end: e,
             payload: Payload::Text(k),
         },
-        Word::Nowhere => Action::Token {
-            kind: kind,
+        None => Action::Token {
+            kind,
             start: i,
             end: e,
             payload: Payload::Part { from: i, to: e },
@@ -52,7 +53,7 @@ pub fn ident(text: &[u8], at: Cursor, e: usize) -> Action
     let i = st.offset as usize;
     if reserved(&text[i..e]) {
         return Action::Error {
-            number: definition::errors::RESERVED_PREFIX,
+            number: LexicalError::ReservedPrefix as u32,
             payload: Payload::Part { from: 0, to: 0 },
         };
     }

@@ -1,4 +1,5 @@
 -- The word of what `select` chooses is one of its place's table. Rests on nothing but the definition.
+use Rattle.std.specs.Prelude.{Option, Some, None}
 use Prim.Native.Nat.{ℕ, suc, ◌+◌, ◌≤◌, ◌<◌}
 use Prim.Native.Char.{Char as Letter}
 use Prim.Native.String.{String}
@@ -14,8 +15,6 @@ use Rattle.definition.specs.Chars.{ascii_limit, is_digit, is_anywhite, is_op_cha
 use Rattle.definition.specs.Matchers.{◌then◌, later, max_list, only, one, match_lit, plus, match_newline, match_ident, match_constructor, match_char_lit, any_integer_ends, match_int_suffix, match_int_usuffix, match_real, match_bad_number, match_backtick_ident}
 use Rattle.definition.specs.Select.{none_at, keep, found, try_words, try_all, one_of_then_symbols, lit_then_symbols, places, select}
 use Rattle.definition.specs.declared.Choice.{Choice}
-use Rattle.definition.specs.declared.Match.{Match}
-use Rattle.definition.specs.declared.Match.TheVariants.{To, Nothing}
 use Rattle.lemmas.proofs.Cases.{by_test, by_if}
 use Rattle.lemmas.proofs.Each.{Each, none_left, ◌⨾◌}
 use Rattle.rule_table.specs.Tabled.{table_size, Tabled}
@@ -36,9 +35,9 @@ module _ (i : ℕ) where
   none_tabled = record { place = omega arith; word = omega arith }
 
   -- what a matcher finds for a word
-  found_tabled : (k w : ℕ) (m : Match) → k < 51 → w < table_size k → Tabled (found i k w m)
-  found_tabled k w (To e) h l = record { place = h; word = l }
-  found_tabled k w Nothing h l = none_tabled
+  found_tabled : (k w : ℕ) (m : Option ℕ) → k < 51 → w < table_size k → Tabled (found i k w m)
+  found_tabled k w (Some e) h l = record { place = h; word = l }
+  found_tabled k w None h l = none_tabled
 
   -- the better of two
   keep_tabled : {best new : Choice} → Tabled best → Tabled new → Tabled (keep best new)
@@ -46,7 +45,7 @@ module _ (i : ℕ) where
   keep_tabled {best} {new} b n = by_if Tabled (ltb best.end new.end) (λ _. n) (λ _. b)
 
   -- the best of all words of a table
-  words_tabled : (k : ℕ) (m : Bytes → Match) (w : ℕ) (es : List String) → k < 51 → w + length es ≤ table_size k → {best : Choice}
+  words_tabled : (k : ℕ) (m : Bytes → Option ℕ) (w : ℕ) (es : List String) → k < 51 → w + length es ≤ table_size k → {best : Choice}
       → Tabled best → Tabled (try_words i k m w es best)
   unfolding try_words
   words_tabled k m w [] h l b = b
@@ -60,11 +59,11 @@ module _ (i : ℕ) where
   all_tabled (h ⨾ hs) b = all_tabled hs (keep_tabled b h)
 
   -- a place without a table
-  single : (k : ℕ) (m : Match) → k < 51 → Tabled (found i k 0 m)
+  single : (k : ℕ) (m : Option ℕ) → k < 51 → Tabled (found i k 0 m)
   single k m h = found_tabled k 0 m h (some_word k)
 
   -- a table
-  table : (k : ℕ) (m : Bytes → Match) (es : List String) → k < 51 → length es ≤ table_size k → Tabled (try_words i k m 0 es (none_at i))
+  table : (k : ℕ) (m : Bytes → Option ℕ) (es : List String) → k < 51 → length es ≤ table_size k → Tabled (try_words i k m 0 es (none_at i))
   table k m es h l = words_tabled k m 0 es h (omega arith) none_tabled
 
   module _ (s f : Bytes) where
@@ -76,8 +75,8 @@ module _ (i : ℕ) where
         let beyond_ascii : Bool = char_has (λ c. leb ascii_limit c) s i in
         let digit : Bool = char_has is_digit s i in
         let op_char : Bool = char_has is_op_char s i in
-        let lit : String → Match = λ word. match_lit s (cps word) i in
-        let when : Bool → Match → Match = λ t m. only t m in
+        let lit : String → Option ℕ = λ word. match_lit s (cps word) i in
+        let when : Bool → Option ℕ → Option ℕ = λ t m. only t m in
         table 1 (λ w. match_lit s w i) (words_of early_literals) (omega arith) (omega arith)
         ⨾ single 2 (when (is "`") (lit "```" then match_ident s f)) (omega arith)
         ⨾ single 3 (when (is "#") (lit "#lang-" then match_ident s f)) (omega arith)
@@ -88,7 +87,7 @@ module _ (i : ℕ) where
         ⨾ single 8 (when beyond_ascii (match_newline s i)) (omega arith)
         ⨾ single 9 (when (is "'") (match_char_lit s i false)) (omega arith)
         ⨾ single 10 (when (is "'") (match_char_lit s i true)) (omega arith)
-        ⨾ single 11 (when (is "`") (To (i + 1))) (omega arith)
+        ⨾ single 11 (when (is "`") (Some (i + 1))) (omega arith)
         ⨾ table 12 (λ w. match_lit s w i then plus is_op_char s) kw_op_words (omega arith) (omega arith)
         ⨾ single 13 (when (is ";") (lit ";;")) (omega arith)
         ⨾ single 14 (match_ident s f i) (omega arith)
@@ -108,14 +107,14 @@ module _ (i : ℕ) where
         ⨾ single 28 (when (is "(") (lit "(*")) (omega arith)
         ⨾ single 29 (when (is "/") (lit "// IN F*:")) (omega arith)
         ⨾ single 30 (when (is "/") (lit "//")) (omega arith)
-        ⨾ single 31 (when (is "\"") (To (i + 1))) (omega arith)
+        ⨾ single 31 (when (is "\"") (Some (i + 1))) (omega arith)
         ⨾ single 32 (when (is "`") (match_backtick_ident s i)) (omega arith)
         ⨾ single 33 (when (is "<") (lit "<|")) (omega arith)
         ⨾ single 34 (when (is "|") (lit "|>")) (omega arith)
         ⨾ single 35 (when (is ".") (lit "..")) (omega arith)
         ⨾ table 36 (λ w. match_lit s w i) (words_of op_tokens) (omega arith) (omega arith)
-        ⨾ single 37 (when op_char (when (is "<") (To (i + 1)))) (omega arith)
-        ⨾ single 38 (when op_char (when (is ">") (To (star is_symbolchar s (i + 1))))) (omega arith)
+        ⨾ single 37 (when op_char (when (is "<") (Some (i + 1)))) (omega arith)
+        ⨾ single 38 (when op_char (when (is ">") (Some (star is_symbolchar s (i + 1))))) (omega arith)
         ⨾ single 39 (when op_char (lit_then_symbols s i "**")) (omega arith)
         ⨾ single 40 (when op_char (lit_then_symbols s i "|->")) (omega arith)
         ⨾ single 41 (when op_char (one_of_then_symbols s i "!~?")) (omega arith)

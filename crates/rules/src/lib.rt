@@ -25,6 +25,7 @@ ghost use Rattle.rule_table.specs.declared.table.Rule.TheVariants as rules;
 ghost use Rattle.rules.specs.Acting.{Acts};
 
 use definition::Choice;
+use definition::errors::LexicalError;
 use reader::actions::Action;
 use reader::tokens::error_here;
 use reader::{Cursor, Read};
@@ -36,7 +37,8 @@ use rule_table::plain::plain;
 use rule_table::table::{ActionRule, ReaderRule, kind_of};
 use rule_words::{capital_name, ident, unicode_operator};
 
-// The action on a choice whose rule gives one.
+// The action on a choice whose rule gives one. (The rules are the source's, a closed list, and each arm stands beside the definition's
+// `by_rule`: a closure for each would say no more.)
 pub fn ruled(text: &[u8], at: Cursor, choice: Choice, rule: ActionRule) -> Action
     requires { Chose text.now at choice.end × Tabled choice × (rule_of choice.place ≡ rules.Action rule) }
     ensures { (name : Bytes) → length name ≤ 4096 → Rules text.now name at choice.end (action_does text.now name rule at.st choice.place choice.end choice.word) result }
@@ -57,7 +59,7 @@ pub fn ruled(text: &[u8], at: Cursor, choice: Choice, rule: ActionRule) -> Actio
     }
 }
 
-// What is read of a choice whose rule reads for itself.
+// What is read of a choice whose rule reads for itself; arm by arm, like `ruled`.
 pub fn act(
     text: &[u8],
     name: &[u8],
@@ -79,6 +81,6 @@ pub fn act(
         ReaderRule::CommentStart => comment_start(text, at, e),
         ReaderRule::LineComment => slashes(text, at, e),
         ReaderRule::StringLit => literal(text, name, classes, at, e),
-        ReaderRule::Any => error_here(text, name, st, known, definition::errors::UNEXPECTED_CHAR),
+        ReaderRule::Any => error_here(text, name, st, known, LexicalError::UnexpectedChar as u32),
     }
 }

@@ -7,7 +7,7 @@ use native.Mathlib.Omega.{arith}
 use borrow.Author.Tests.{eqb-false}
 use lib.Dec.{eqb}
 use lib.ListN.{length}
-use Rattle.definition.specs.Basics.{Bytes, Turn}
+use Rattle.definition.specs.Basics.{Bytes, Turn, done}
 use Rattle.definition.specs.Position.{count_chars, col_by}
 use Rattle.definition.specs.Item.{record_size, words}
 use Rattle.definition.specs.Token.{step}
@@ -27,7 +27,7 @@ use Rattle.reader.specs.declared.Cursor.{Cursor}
 use Rattle.reader.specs.Described.{KnownAt}
 use Rattle.laws_run.proofs.Items.{step_left}
 use Rattle.laws_run.proofs.Buffers.{words_size}
-use Rattle.run_turn.specs.declared.TurnResult.TheVariants.{Stop, Wrote}
+use Rattle.run_turn.specs.declared.TurnResult.TheVariants.{Wrote}
 use Rattle.run_turn.specs.Running.{writing, answered, Ran, WithinBounds, Between, Going}
 
 module _ (s name f : Bytes) (named : length name ≤ 4096) where
@@ -122,7 +122,8 @@ ran_same {s} {name} {f} b next used' rs' ps' e = ap (λ (t : Turn Writing Outcom
 module _ {s name f : Bytes} {st : State} {rs₀ : List ℕ} {ps₀ : Bytes} {at : Cursor} {count used : ℕ} {rs : List ℕ} {ps : Bytes}
     (g : Going s name f st rs₀ ps₀ at count used rs ps) where
   -- a turn that stops answers for the whole
-  pub going_stops : (stop : ℕ) (rs' : List ℕ) (ps' : Bytes) → Ran s (run_turn s name f (writing at count used rs ps)) count at.st (Stop stop) rs' ps'
+  pub going_stops : (stop : ℕ) (rs' : List ℕ) (ps' : Bytes)
+      → run_turn s name f (writing at count used rs ps) ≡ done (answered stop count at.st, rs', ps')
       → ◌≡◌ {A = Outcome} (answered stop count at.st, rs', ps') (run_items s name f st rs₀ ps₀)
   going_stops stop rs' ps' e =
       ap (λ (t : Turn Writing Outcome). says t (run_from s name f)) (sym e) ∙ sym (unrolled g.between) ∙ g.same

@@ -2,13 +2,13 @@
 -- class file; rs and ps are the buffers as they are then.
 use Rattle.std.specs.Prelude.{ℕ, ◌+◌, ◌-◌, ◌*◌, ◌≤◌, ◌<◌, ◌≡◌, List, length}
 use Rattle.definition.specs.Basics.{Bytes, Turn, again, done}
+use Rattle.definition.specs.Answers.{RunAnswer, stop_number}
 use Rattle.definition.specs.ClassFile.{class_check}
 use Rattle.definition.specs.Item.{record_size}
 use Rattle.definition.specs.Token.{step}
 use Rattle.definition.specs.Run.{Outcome, Writing, run_items}
 use Rattle.definition.specs.Utf16.{given_at}
 use Rattle.definition.specs.declared.State.{State}
-use Rattle.definition.specs.declared.RunAnswer.{RunAnswer}
 use Rattle.laws_run.specs.Left.{left}
 use Rattle.laws_run.specs.Going.{run_from}
 use Rattle.state.specs.Sound.{Stands}
@@ -26,12 +26,12 @@ abbrev pub writing : Cursor → ℕ → ℕ → List ℕ → Bytes → Writing
 writing at count used rs ps = record { state = at.st; records = rs; payload = ps; count = count; used = used }
 
 -- the answer of a run that stops
-abbrev pub answered : ℕ → ℕ → State → RunAnswer
+abbrev pub answered : ℕ → ℕ → State → RunAnswer State
 answered stop count st = record { refusal = 0; offset = 0; stop = stop; count = count; state = st }
 
 -- what a turn of the definition says is what the code did: it stopped, or it wrote an item and stands after it
-abbrev pub Ran : Bytes → Turn Writing Outcome → ℕ → State → TurnResult → List ℕ → Bytes → Type 0
-Ran s t count st (Stop n) rs ps = t ≡ done (answered n count st, rs, ps)
+abbrev pub Ran : Bytes → Turn Writing Outcome → ℕ → State → TurnResult Cursor → List ℕ → Bytes → Type 0
+Ran s t count st (Stop n) rs ps = t ≡ done (answered (stop_number n) count st, rs, ps)
 Ran s t count st (Wrote next used) rs ps = (t ≡ again (writing next (count + 1) used rs ps)) × KnownAt s next.st next.known
 
 -- what holds of a run between two items: the state is sound, the buffers hold what is written, and what may still come fits

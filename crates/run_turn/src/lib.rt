@@ -13,6 +13,7 @@ ghost use Rattle.reader.specs.Described.{bytes_of};
 ghost use Rattle.run_turn.specs.Running.{writing, Ran, Between, StandsAhead, ItemFits};
 
 use definition::RECORD;
+use definition::answers::Stop;
 use lookahead::NextItem;
 use payload_write::write;
 use reader::{Cursor, Read, length_of};
@@ -22,12 +23,13 @@ use step::read;
 // How many numbers have to be free for one more record.
 const NEEDED: usize = RECORD;
 
-// What a turn of a run did: it stopped, for document 01's reason, or it wrote an item, after which reading goes on with so
-// many payload bytes used.
+// What a turn of a run did: it stopped, or it wrote an item, after which reading goes on from `next` with so many payload bytes
+// used. C is where a run stands between two items; the second run stands elsewhere than the first (crate `utf16_turn`). (To stop is no
+// error, as in a Result, and leaves no function early, as in the library's ControlFlow.)
 #[derive(Clone, Copy)]
-pub enum TurnResult {
-    Stop(u32),
-    Wrote { next: Cursor, used: usize },
+pub enum TurnResult<C> {
+    Stop(Stop),
+    Wrote { next: C, used: usize },
 }
 
 // Writes an item: its payload from byte `used` on, its record from number `first` on.
@@ -50,7 +52,7 @@ fn write_item(
     write_record(item, used as u32, &mut records[first..]);
 }
 
-// One turn: stop 0 at the end, stop 1 where no record fits, stop 2 where the next payload doesn't; else an item is written.
+// One turn: it stops at the end, where no record fits, and where the next payload doesn't; else an item is written.
 // The run stands at `at`, and after white space, at `here`, stands what is ahead.
 pub fn turn(
     text: &[u8],
@@ -63,33 +65,30 @@ pub fn turn(
     used: usize,
     records: &mut [u32],
     payload: &mut [u8],
-) -> TurnResult
+) -> TurnResult<Cursor>
     requires { Between text.now name.now classes.now at count used records.old payload.old × StandsAhead text.now name.now classes.now at here ahead }
     ensures { Ran text.now (run_turn text.now name.now classes.now (writing at count used records.old payload.old)) count at.st result records.new payload.new }
 {
     let st = at.st;
     let ended = st.mode == 2;
     if ended {
-        return TurnResult::Stop(0);
+        return TurnResult::Stop(Stop::End);
     }
     let first = RECORD * count;
     if records.len() - first < NEEDED {
-        return TurnResult::Stop(1);
+        return TurnResult::Stop(Stop::RecordsFull);
     }
     let r = read(text, name, classes, here, ahead);
     let bytes = r.payload;
     let size = length_of(name, bytes);
     if payload.len() - used < size {
-        return TurnResult::Stop(2);
+        return TurnResult::Stop(Stop::PayloadFull);
     }
     write_item(text, name, classes, r, first, used, records, payload);
     let next = r.next;
     let known = r.known;
     TurnResult::Wrote {
-        next: Cursor {
-            st: next,
-            known: known,
-        },
+        next: Cursor { st: next, known },
         used: used + size,
     }
 }

@@ -1,5 +1,6 @@
 -- What `select` chooses at a character beyond ASCII: six places may begin with one, one of them with ∀ and ∃ alone, and each reads it
 -- once. Rests on the law of first characters.
+use Rattle.std.specs.Prelude.{Option, Some}
 use Prim.Native.Nat.{ℕ, ◌+◌, ◌≤◌}
 use mathlib.Core.Path.{◌≡◌, refl, sym, ap, ◌∙◌}
 use mathlib.Core.Bool.{Bool, true, false, ◌&&◌, false≢true}
@@ -17,8 +18,6 @@ use Rattle.definition.specs.Select.{none_at, keep, found, places, try_all, selec
 use Rattle.definition.specs.Patterns.{patterns}
 use Rattle.definition.specs.declared.Choice.{Choice}
 use Rattle.definition.specs.declared.Sequence.TheVariants.{Char}
-use Rattle.definition.specs.declared.Match.{Match}
-use Rattle.definition.specs.declared.Match.TheVariants.{To}
 use Rattle.lemmas.proofs.Cases.{by_test, both}
 use Rattle.laws_longest.proofs.Starts.{all_pass}
 use Rattle.laws_longest.proofs.Places.{has_read}
@@ -59,43 +58,43 @@ module _ (c : ℕ) (h : 128 ≤ c) where
 -- ---- what they find
 
 -- A run after one character that passes its test.
-one_then : (t : Bool) (j : ℕ) (g : ℕ → ℕ) → (only t (To j) then λ e. To (g e)) ≡ only t (To (g j))
+one_then : (t : Bool) (j : ℕ) (g : ℕ → ℕ) → (only t (Some j) then λ e. Some (g e)) ≡ only t (Some (g j))
 one_then true j g = refl
 one_then false j g = refl
 
 module _ (s f : Bytes) (i c w : ℕ) (q : sequence_at s i ≡ Char c w) where
   -- A run from the character on, of another test after the first.
-  run : (p g : ℕ → Bool) → (one p s i then λ j. To (star g s j)) ≡ only (p c) (To (star g s (i + w)))
-  run p g = ap (λ (m : Match). m then λ j. To (star g s j)) (one_read p s i c w q) ∙ one_then (p c) (i + w) (star g s)
+  run : (p g : ℕ → Bool) → (one p s i then λ j. Some (star g s j)) ≡ only (p c) (Some (star g s (i + w)))
+  run p g = ap (λ (m : Option ℕ). m then λ j. Some (star g s j)) (one_read p s i c w q) ∙ one_then (p c) (i + w) (star g s)
 
   -- A line end beyond ASCII is one character.
-  newline : 128 ≤ c → match_newline s i ≡ only (is_newline_char c) (To (i + w))
+  newline : 128 ≤ c → match_newline s i ≡ only (is_newline_char c) (Some (i + w))
   unfolding match_newline
   newline h =
       let e : char_has (λ c. eqb c (ch "\r")) s i ≡ false = has_read (λ c. eqb c (ch "\r")) s i c w q ∙ not_ascii c h (ch "\r") refl in
-      by_test (λ (m : Match). m ≡ only (is_newline_char c) (To (i + w)))
+      by_test (λ (m : Option ℕ). m ≡ only (is_newline_char c) (Some (i + w)))
       (char_has (λ c. eqb c (ch "\r")) s i && byte_is (ch "\n") s (i + 1))
       (λ t. absurd (false≢true (sym e ∙ (both _ _ t).0)))
       (λ _. one_read is_newline_char s i c w q)
 
   -- The best of places 7 and 8.
   abbrev white_or_line : Choice
-  white_or_line = alone i 7 (only (is_anywhite f c) (To (star (is_anywhite f) s (i + w)))) or found i 8 0 (only (is_newline_char c) (To (i + w)))
+  white_or_line = alone i 7 (only (is_anywhite f c) (Some (star (is_anywhite f) s (i + w)))) or found i 8 0 (only (is_newline_char c) (Some (i + w)))
 
   -- The best of them, of a choice for place 12 and of the three that follow.
   abbrev with_keyword : Choice → Choice
   with_keyword k =
       white_or_line or k
-      or found i 14 0 (only (is_ident_start c) (To (star (is_ident_char f) s (i + w))))
-      or found i 15 0 (only (is_constructor_start f c) (To (star (is_ident_char f) s (i + w))))
-      or found i 49 0 (only (is_uoperator f c) (To (i + w)))
+      or found i 14 0 (only (is_ident_start c) (Some (star (is_ident_char f) s (i + w))))
+      or found i 15 0 (only (is_constructor_start f c) (Some (star (is_ident_char f) s (i + w))))
+      or found i 49 0 (only (is_uoperator f c) (Some (i + w)))
 
   -- Nothing at place 12 changes nothing.
   no_keyword : keep white_or_line (none_at i) ≡ white_or_line
   no_keyword =
-      let first = alone i 7 (only (is_anywhite f c) (To (star (is_anywhite f) s (i + w)))) in
-      let a = keep_forward (none_at i) (found i 7 0 (only (is_anywhite f c) (To (star (is_anywhite f) s (i + w))))) in
-      let b = keep_forward first (found i 8 0 (only (is_newline_char c) (To (i + w)))) in
+      let first = alone i 7 (only (is_anywhite f c) (Some (star (is_anywhite f) s (i + w)))) in
+      let a = keep_forward (none_at i) (found i 7 0 (only (is_anywhite f c) (Some (star (is_anywhite f) s (i + w))))) in
+      let b = keep_forward first (found i 8 0 (only (is_newline_char c) (Some (i + w)))) in
       keep_best white_or_line (none_at i) (omega (arith, a, b))
 
   -- What is chosen where keyword operators are tried,

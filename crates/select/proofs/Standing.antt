@@ -1,5 +1,6 @@
 -- One of the ASCII characters of a list stands at an offset: what such a character passes, every character of the list does, and that is
 -- computed. Rests on the law of first characters.
+use Rattle.std.specs.Prelude.{Option, Some, None}
 use Prim.Native.Nat.{ℕ, ◌+◌, ◌≤◌, ◌<◌}
 use Prim.Native.String.{String}
 use mathlib.Core.Path.{◌≡◌, refl, ap, ◌∙◌}
@@ -17,8 +18,6 @@ use Rattle.definition.specs.Matchers.{◌then◌, only, one, match_ident, match_
 use Rattle.definition.specs.Select.{select, one_of_then_symbols}
 use Rattle.definition.specs.declared.Sequence.{Sequence}
 use Rattle.definition.specs.declared.Sequence.TheVariants.{Char}
-use Rattle.definition.specs.declared.Match.{Match}
-use Rattle.definition.specs.declared.Match.TheVariants.{To, Nothing}
 use Rattle.lemmas.proofs.Cases.{by_order}
 use Rattle.lemmas.proofs.Members.{all_in, mem_yes}
 use Rattle.utf8.proofs.Reading.{read_end, NoChar}
@@ -37,11 +36,11 @@ pub record Stands (chars : List ℕ) (s : Bytes) (i : ℕ) : Type 0 where
   pub listed : mem_cp code chars ≡ true
 
 -- A character that passes a test, and one that doesn't.
-pub one_read : (p : ℕ → Bool) (s : Bytes) (i c w : ℕ) → sequence_at s i ≡ Char c w → one p s i ≡ only (p c) (To (i + w))
+pub one_read : (p : ℕ → Bool) (s : Bytes) (i c w : ℕ) → sequence_at s i ≡ Char c w → one p s i ≡ only (p c) (Some (i + w))
 unfolding one
-one_read p s i c w q = ap (λ (t : Sequence). with_char t i (λ c j. elim (p c) [ true ↦ To j | false ↦ Nothing ]) Nothing) q ∙ go (p c)
+one_read p s i c w q = ap (λ (t : Sequence). with_char t i (λ c j. elim (p c) [ true ↦ Some j | false ↦ None ]) None) q ∙ go (p c)
   where
-    go : (t : Bool) → elim t [ true ↦ To (i + w) | false ↦ Nothing ] ≡ only t (To (i + w))
+    go : (t : Bool) → elim t [ true ↦ Some (i + w) | false ↦ None ] ≡ only t (Some (i + w))
     go true = refl
     go false = refl
 
@@ -63,22 +62,22 @@ module _ {chars : List ℕ} {s : Bytes} {i : ℕ} (h : Stands chars s i) where
   has_not p t = has_read p s i h.code 1 h.read ∙ not-true (p h.code) (passes (λ c. not (p c)) t)
 
   -- and a matcher of one such character.
-  one_passes : (p : ℕ → Bool) → all_pass p chars ≡ true → one p s i ≡ To (i + 1)
-  one_passes p t = one_read p s i h.code 1 h.read ∙ ap (λ (b : Bool). only b (To (i + 1))) (passes p t)
+  one_passes : (p : ℕ → Bool) → all_pass p chars ≡ true → one p s i ≡ Some (i + 1)
+  one_passes p t = one_read p s i h.code 1 h.read ∙ ap (λ (b : Bool). only b (Some (i + 1))) (passes p t)
 
   -- An operator goes on with symbol characters,
   pub operator : (first : String) → all_pass (λ c. mem_cp c (codes first)) chars ≡ true → one_of_then_symbols s i first ≡ symbols_after s i
   unfolding one_of_then_symbols
-  operator first t = ap (λ (m : Match). m then λ e. To (star is_symbolchar s e)) (one_passes (λ c. mem_cp c (codes first)) t)
+  operator first t = ap (λ (m : Option ℕ). m then λ e. Some (star is_symbolchar s e)) (one_passes (λ c. mem_cp c (codes first)) t)
 
   -- and a name with identifier characters.
   pub name : (f : Bytes) → all_pass is_ident_start chars ≡ true → match_ident s f i ≡ name_after s f i
   unfolding match_ident
-  name f t = ap (λ (m : Match). m then λ j. To (star (is_ident_char f) s j)) (one_passes is_ident_start t)
+  name f t = ap (λ (m : Option ℕ). m then λ j. Some (star (is_ident_char f) s j)) (one_passes is_ident_start t)
 
   pub capital_name : (f : Bytes) → all_pass (is_constructor_start f) chars ≡ true → match_constructor s f i ≡ name_after s f i
   unfolding match_constructor
-  capital_name f t = ap (λ (m : Match). m then λ j. To (star (is_ident_char f) s j)) (one_passes (is_constructor_start f) t)
+  capital_name f t = ap (λ (m : Option ℕ). m then λ j. Some (star (is_ident_char f) s j)) (one_passes (is_constructor_start f) t)
 
 -- A character that is one of the keys of an arm.
 pub stands : {s : Bytes} {i c : ℕ} (keys chars : List ℕ) → all_in keys chars ≡ true → Ascii s i c → OneOf keys c → Stands chars s i

@@ -14,7 +14,7 @@ ghost use Rattle.select_places.specs.Groups.{at_capital, at_letter, at_early_let
 
 use choice::attempts::try_place;
 use choice::keep;
-use definition::{Choice, Match};
+use definition::Choice;
 use match_lit::match_lit;
 use matchers::quoted::{match_backtick_ident, match_char_lit};
 use select_places::{alone, first, lit_then_ident, name_after};
@@ -22,6 +22,7 @@ use table_early::early_literal;
 use table_kw_op::kw_op;
 use table_op_tokens::op_token;
 
+// A capital. (This and `at_letter` differ in a place alone: each is one line, named as its group of the definition's places.)
 pub fn at_capital(text: &[u8], file: &[u8], i: usize) -> Choice
     requires { (class_check file.now ≡ 0) × (i < length text.now) }
     ensures { result ≡ at_capital text.now file.now i }
@@ -91,7 +92,7 @@ pub fn at_backtick(text: &[u8], file: &[u8], i: usize) -> Choice
 {
     let mut best = first(i, early_literal(text, i));
     best = try_place(best, i, 2, lit_then_ident(text, file, b"```", i));
-    best = try_place(best, i, 11, Match::To(i + 1));
+    best = try_place(best, i, 11, Some(i + 1));
     try_place(best, i, 32, match_backtick_ident(text, i))
 }
 
@@ -100,5 +101,5 @@ pub fn at_double_quote(text: &[u8], i: usize) -> Choice
     requires { i < length text.now }
     ensures { result ≡ at_double_quote i }
 {
-    alone(i, 31, Match::To(i + 1))
+    alone(i, 31, Some(i + 1))
 }

@@ -13,14 +13,14 @@ ghost use Rattle.match_number.specs.IntegerParts.{integer_ends};
 ghost use Rattle.select_places.specs.Groups.{byte_integer, at_integers, at_digit};
 
 use choice::attempts::try_place;
-use definition::{Choice, Match};
+use definition::Choice;
 use match_lit::later;
 use match_number::floats::{bad_number_after, floatp_after, real_after};
 use match_number::{IntegerEnds, any_integer_ends, suffix_after, usuffix_after};
 use select_places::alone;
 
 // The later of both ends of an integer.
-fn latest(ends: IntegerEnds) -> Match
+fn latest(ends: IntegerEnds) -> Option<usize>
     ensures { result ≡ later ends.plain ends.based }
 {
     let plain = ends.plain;
@@ -59,7 +59,7 @@ fn try_usuffix(
 }
 
 // The end of an unsigned 8-bit integer, which z after the digits makes too.
-fn byte_after(text: &[u8], ends: IntegerEnds, i: usize) -> Match
+fn byte_after(text: &[u8], ends: IntegerEnds, i: usize) -> Option<usize>
     requires { ends ≡ integer_ends text.now i }
     ensures { result ≡ byte_integer text.now i }
 {

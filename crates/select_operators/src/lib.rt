@@ -7,42 +7,40 @@
 // and of symbol characters, and a byte at the offset.
 #![tactic(auto)]
 
-ghost use Rattle.std.specs.Prelude.{◌≡◌, ◌<◌, length};
+ghost use Rattle.std.specs.Prelude.{◌≡◌, ◌<◌, length, Some};
 ghost use Rattle.definition.specs.ClassFile.{class_check};
 ghost use Rattle.definition.specs.Chars.{ascii_table, op_char_cps, symbolchar_cps, is_symbolchar};
 ghost use Rattle.definition.specs.Text.{star};
 ghost use Rattle.definition.specs.Matchers.{◌then◌, match_lit};
-ghost use Rattle.definition.specs.declared.Match.TheVariants.{To};
 ghost use Rattle.select_places.specs.Groups.{symbols_after, at_operator, at_token, at_token_operator, at_hash, at_percent, at_semicolon, at_paren, at_slash, at_less, at_bar, at_point, at_star};
 
 use choice::attempts::try_place;
 use choice::keep;
-use definition::{Choice, Match};
+use definition::Choice;
 use match_lit::match_lit;
 use select_places::{alone, first, lit_then_ident};
-use star::star_symbolchar;
+use star::star_ascii;
+use star::tests::SymbolChar;
 use table_early::early_literal;
 use table_kw_op::kw_op;
 use table_op_tokens::mixfix::mixfix_word;
 use table_op_tokens::op_token;
 
 // The end of the symbol characters after the first character of an operator.
-fn symbols_after(text: &[u8], symbols: &[bool; 128], i: usize) -> Match
+fn symbols_after(text: &[u8], symbols: &[bool; 128], i: usize) -> Option<usize>
     requires { (symbols.now ≡ ascii_table symbolchar_cps) × (i < length text.now) }
     ensures { result ≡ symbols_after text.now i }
 {
-    Match::To(star_symbolchar(text, symbols, i + 1))
+    Some(star_ascii(text, SymbolChar { table: symbols }, i + 1))
 }
 
 // The end of the symbol characters after a word.
-fn lit_then_symbols(text: &[u8], symbols: &[bool; 128], word: &[u8], i: usize) -> Match
+fn lit_then_symbols(text: &[u8], symbols: &[bool; 128], word: &[u8], i: usize) -> Option<usize>
     requires { symbols.now ≡ ascii_table symbolchar_cps }
-    ensures { result ≡ (match_lit text.now word.now i then λ e. To (star is_symbolchar text.now e)) }
+    ensures { result ≡ (match_lit text.now word.now i then λ e. Some (star is_symbolchar text.now e)) }
 {
-    let Match::To(e) = match_lit(text, word, i) else {
-        return Match::Nothing;
-    };
-    Match::To(star_symbolchar(text, symbols, e))
+    let e = match_lit(text, word, i)?;
+    Some(star_ascii(text, SymbolChar { table: symbols }, e))
 }
 
 // Symbol characters alone.
@@ -125,7 +123,7 @@ pub fn at_less(text: &[u8], symbols: &[bool; 128], i: usize) -> Choice
 {
     let mut best = alone(i, 33, match_lit(text, b"<|", i));
     best = keep(best, op_token(text, i));
-    best = try_place(best, i, 37, Match::To(i + 1));
+    best = try_place(best, i, 37, Some(i + 1));
     try_place(best, i, 44, symbols_after(text, symbols, i))
 }
 

@@ -1,7 +1,7 @@
 -- What may be chosen at an offset by the character that stands there: the places that may begin with it, in order, without the tests that
 -- it passes. That each group is what `select` chooses at its characters is proved in the crate `select`.
 -- s is the text, f the class file, i the offset.
-use Rattle.std.specs.Prelude.{ℕ, ◌+◌, true, false, eqb}
+use Rattle.std.specs.Prelude.{ℕ, ◌+◌, true, false, eqb, Option, Some}
 use Rattle.definition.specs.Basics.{Bytes}
 use Rattle.definition.specs.Text.{star}
 use Rattle.definition.specs.Chars.{is_op_char, is_symbolchar, is_ident_start, is_constructor_start, is_ident_char, is_anywhite, is_newline_char, is_uoperator}
@@ -24,8 +24,6 @@ use Rattle.definition.specs.Matchers.{
 }
 use Rattle.definition.specs.Select.{none_at, keep, found, try_words, lit_then_symbols}
 use Rattle.definition.specs.declared.Choice.{Choice}
-use Rattle.definition.specs.declared.Match.{Match}
-use Rattle.definition.specs.declared.Match.TheVariants.{To}
 
 -- ---- tables and parts
 
@@ -42,14 +40,14 @@ abbrev pub mixfix : Bytes → ℕ → Choice
 mixfix s i = try_words i 50 (λ w. match_lit s w i) 0 (words_of mixfix_rules) (none_at i)
 
 -- the character at i and the symbol characters after it
-abbrev pub symbols_after : Bytes → ℕ → Match
-symbols_after s i = To (star is_symbolchar s (i + 1))
+abbrev pub symbols_after : Bytes → ℕ → Option ℕ
+symbols_after s i = Some (star is_symbolchar s (i + 1))
 
 -- the first choice that is tried, and that of a place
 abbrev pub first : ℕ → Choice → Choice
 first i new = keep (none_at i) new
 
-abbrev pub alone : ℕ → ℕ → Match → Choice
+abbrev pub alone : ℕ → ℕ → Option ℕ → Choice
 alone i place m = first i (found i place 0 m)
 
 infixl 2 ◌or◌
@@ -58,8 +56,8 @@ abbrev pub ◌or◌ : Choice → Choice → Choice
 best or new = keep best new
 
 -- the character at i and the identifier characters after it
-abbrev pub name_after : Bytes → Bytes → ℕ → Match
-name_after s f i = To (star (is_ident_char f) s (i + 1))
+abbrev pub name_after : Bytes → Bytes → ℕ → Option ℕ
+name_after s f i = Some (star (is_ident_char f) s (i + 1))
 
 -- ---- letters
 
@@ -105,12 +103,12 @@ abbrev pub at_backtick : Bytes → Bytes → ℕ → Choice
 at_backtick s f i =
     first i (early s i)
     or found i 2 0 (match_lit s (cps "```") i then match_ident s f)
-    or found i 11 0 (To (i + 1))
+    or found i 11 0 (Some (i + 1))
     or found i 32 0 (match_backtick_ident s i)
 
 -- "
 abbrev pub at_double_quote : ℕ → Choice
-at_double_quote i = alone i 31 (To (i + 1))
+at_double_quote i = alone i 31 (Some (i + 1))
 
 -- ---- operators
 
@@ -155,7 +153,7 @@ abbrev pub at_less : Bytes → ℕ → Choice
 at_less s i =
     alone i 33 (match_lit s (cps "<|") i)
     or token s i
-    or found i 37 0 (To (i + 1))
+    or found i 37 0 (Some (i + 1))
     or found i 44 0 (symbols_after s i)
 
 -- |
@@ -177,7 +175,7 @@ at_star s i = alone i 39 (lit_then_symbols s i "**") or found i 48 0 (symbols_af
 -- ---- numbers
 
 -- an unsigned 8-bit integer
-abbrev pub byte_integer : Bytes → ℕ → Match
+abbrev pub byte_integer : Bytes → ℕ → Option ℕ
 byte_integer s i = later (match_int_usuffix s i (cps "y")) (match_int_suffix s i (cps "z"))
 
 abbrev pub at_integers : Bytes → ℕ → Choice
@@ -204,9 +202,9 @@ quantified s i c = elim (eqb c 0x2200) [ true ↦ keyword s i | false ↦ elim (
 
 abbrev pub at_beyond_ascii : Bytes → Bytes → ℕ → ℕ → ℕ → Choice
 at_beyond_ascii s f i c j =
-    alone i 7 (only (is_anywhite f c) (To (star (is_anywhite f) s j)))
-    or found i 8 0 (only (is_newline_char c) (To j))
+    alone i 7 (only (is_anywhite f c) (Some (star (is_anywhite f) s j)))
+    or found i 8 0 (only (is_newline_char c) (Some j))
     or quantified s i c
-    or found i 14 0 (only (is_ident_start c) (To (star (is_ident_char f) s j)))
-    or found i 15 0 (only (is_constructor_start f c) (To (star (is_ident_char f) s j)))
-    or found i 49 0 (only (is_uoperator f c) (To j))
+    or found i 14 0 (only (is_ident_start c) (Some (star (is_ident_char f) s j)))
+    or found i 15 0 (only (is_constructor_start f c) (Some (star (is_ident_char f) s j)))
+    or found i 49 0 (only (is_uoperator f c) (Some j))

@@ -17,14 +17,14 @@ ghost use Rattle.select_places.specs.Groups.{first, alone, name_after};
 
 use choice::attempts::{found, try_place};
 use choice::{keep, nothing};
-use definition::{Choice, Match};
+use definition::Choice;
 use match_lit::match_lit;
 use matchers::{match_ident, match_newline};
-use star::blanks::plus_anywhite;
-use star::star_ident_char;
+use star::tests::{IdentChar, White};
+use star::{plus_chars, star_chars};
 
 // The source's `try_` for the first place that is tried.
-pub fn alone(i: usize, place: u32, m: Match) -> Choice
+pub fn alone(i: usize, place: u32, m: Option<usize>) -> Choice
     ensures { result ≡ alone i place m }
 {
     try_place(nothing(i), i, place, m)
@@ -38,22 +38,19 @@ pub fn first(i: usize, new: Choice) -> Choice
 }
 
 // The end of the identifier characters after the first character of a name.
-pub fn name_after(text: &[u8], file: &[u8], i: usize) -> Match
+pub fn name_after(text: &[u8], file: &[u8], i: usize) -> Option<usize>
     requires { (class_check file.now ≡ 0) × (i < length text.now) }
     ensures { result ≡ name_after text.now file.now i }
 {
-    Match::To(star_ident_char(text, file, i + 1))
+    Some(star_chars(text, IdentChar { file }, i + 1))
 }
 
 // The end of a word with an identifier after it.
-pub fn lit_then_ident(text: &[u8], file: &[u8], word: &[u8], i: usize) -> Match
+pub fn lit_then_ident(text: &[u8], file: &[u8], word: &[u8], i: usize) -> Option<usize>
     requires { class_check file.now ≡ 0 }
     ensures { result ≡ (match_lit text.now word.now i then match_ident text.now file.now) }
 {
-    let Match::To(e) = match_lit(text, word, i) else {
-        return Match::Nothing;
-    };
-    match_ident(text, file, e)
+    match_ident(text, file, match_lit(text, word, i)?)
 }
 
 // White space.
@@ -61,7 +58,7 @@ pub fn at_white(text: &[u8], file: &[u8], i: usize) -> Choice
     requires { class_check file.now ≡ 0 }
     ensures { result ≡ found i 7 0 (plus (is_anywhite file.now) text.now i) }
 {
-    found(i, 7, plus_anywhite(text, file, i))
+    found(i, 7, plus_chars(text, White { file }, i))
 }
 
 // A line end.

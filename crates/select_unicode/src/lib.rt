@@ -7,65 +7,58 @@
 // characters.
 #![tactic(auto)]
 
-ghost use Rattle.std.specs.Prelude.{◌≡◌};
+ghost use Rattle.std.specs.Prelude.{◌≡◌, Some};
 ghost use Rattle.definition.specs.ClassFile.{class_check};
 ghost use Rattle.definition.specs.Chars.{ascii_table, op_char_cps, is_anywhite, is_newline_char, is_ident_start, is_constructor_start, is_ident_char, is_uoperator};
 ghost use Rattle.definition.specs.Text.{star};
 ghost use Rattle.definition.specs.Matchers.{only};
-ghost use Rattle.definition.specs.declared.Match.TheVariants.{To};
 ghost use Rattle.select_places.specs.Groups.{quantified, at_beyond_ascii};
 
 use chars::fixed::is_newline_char;
 use chars::{is_anywhite, is_constructor_start, is_ident_start, is_uoperator};
 use choice::attempts::try_place;
 use choice::{keep, nothing};
-use definition::{Choice, Match};
+use definition::Choice;
 use select_places::alone;
-use star::blanks::star_anywhite;
-use star::ident_decoded;
+use star::tests::{IdentChar, White};
+use star::{star_chars, star_decoded};
 use table_kw_op::kw_op;
 
 // The end of white space after a character c.
-fn white_after(text: &[u8], file: &[u8], c: u32, j: usize) -> Match
+fn white_after(text: &[u8], file: &[u8], c: u32, j: usize) -> Option<usize>
     requires { class_check file.now ≡ 0 }
-    ensures { result ≡ only (is_anywhite file.now c) (To (star (is_anywhite file.now) text.now j)) }
+    ensures { result ≡ only (is_anywhite file.now c) (Some (star (is_anywhite file.now) text.now j)) }
 {
     if is_anywhite(file, c) {
-        return Match::To(star_anywhite(text, file, j));
+        return Some(star_chars(text, White { file }, j));
     }
-    Match::Nothing
+    None
 }
 
 // The end of a line end c.
-fn line_end(c: u32, j: usize) -> Match
-    ensures { result ≡ only (is_newline_char c) (To j) }
+fn line_end(c: u32, j: usize) -> Option<usize>
+    ensures { result ≡ only (is_newline_char c) (Some j) }
 {
-    if is_newline_char(c) {
-        return Match::To(j);
-    }
-    Match::Nothing
+    is_newline_char(c).then_some(j)
 }
 
 // The end of a constructor whose first character is c. What follows is decoded at once: it is mostly beyond ASCII too.
-fn constructor_after(text: &[u8], file: &[u8], c: u32, j: usize) -> Match
+fn constructor_after(text: &[u8], file: &[u8], c: u32, j: usize) -> Option<usize>
     requires { class_check file.now ≡ 0 }
-    ensures { result ≡ only (is_constructor_start file.now c) (To (star (is_ident_char file.now) text.now j)) }
+    ensures { result ≡ only (is_constructor_start file.now c) (Some (star (is_ident_char file.now) text.now j)) }
 {
     if is_constructor_start(file, c) {
-        return Match::To(ident_decoded(text, file, j));
+        return Some(star_decoded(text, IdentChar { file }, j));
     }
-    Match::Nothing
+    None
 }
 
 // The end of a mathematical operator c.
-fn uoperator(file: &[u8], c: u32, j: usize) -> Match
+fn uoperator(file: &[u8], c: u32, j: usize) -> Option<usize>
     requires { class_check file.now ≡ 0 }
-    ensures { result ≡ only (is_uoperator file.now c) (To j) }
+    ensures { result ≡ only (is_uoperator file.now c) (Some j) }
 {
-    if is_uoperator(file, c) {
-        return Match::To(j);
-    }
-    Match::Nothing
+    is_uoperator(file, c).then_some(j)
 }
 
 // A keyword operator whose first character is c: of those beyond ASCII only ∀ and ∃ begin one.
@@ -73,13 +66,10 @@ fn quantifier(text: &[u8], ops: &[bool; 128], i: usize, c: u32) -> Choice
     requires { ops.now ≡ ascii_table op_char_cps }
     ensures { result ≡ quantified text.now i c }
 {
-    if c == 0x2200 {
-        return kw_op(text, ops, i);
+    match c {
+        0x2200 | 0x2203 => kw_op(text, ops, i),
+        _ => nothing(i),
     }
-    if c == 0x2203 {
-        return kw_op(text, ops, i);
-    }
-    nothing(i)
 }
 
 // A character c from i to j. Where it begins an identifier, neither a constructor nor an operator is longer, and both are later.
@@ -98,7 +88,7 @@ pub fn at_beyond_ascii(
     best = try_place(best, i, 8, line_end(c, j));
     best = keep(best, quantifier(text, ops, i, c));
     if is_ident_start(c) {
-        return try_place(best, i, 14, Match::To(ident_decoded(text, file, j)));
+        return try_place(best, i, 14, Some(star_decoded(text, IdentChar { file }, j)));
     }
     best = try_place(best, i, 15, constructor_after(text, file, c, j));
     try_place(best, i, 49, uoperator(file, c, j))

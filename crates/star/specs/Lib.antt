@@ -1,3 +1,4 @@
--- `Blanks` is the white space of ASCII.
+-- `Blanks`: the white space of ASCII. `Stops`: the characters that end a run. `TestLaws`: what the laws of the tests' traits ask.
 pub mod Blanks
 pub mod Stops
+pub mod TestLaws

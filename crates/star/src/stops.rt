@@ -1,63 +1,54 @@
 // Runs up to one of some characters: the source's `run_end`, with which comments, strings, blobs and lines are read.
 //
-// Proved: the answer of each public function is what the definition gives, at any offset of any bytes. A byte of ASCII is
-// a character by itself, any other is decoded.
+// Proved: the answer of each public function is what the definition gives, at any offset of any bytes.
 // Assumed: nothing.
 ghost use Rattle.std.specs.Prelude.{◌≡◌};
 ghost use Rattle.definition.specs.Text.{star, after};
-ghost use Rattle.definition.specs.Matchers.{one};
-ghost use Rattle.star.specs.Stops.{stops, goes_on};
+ghost use Rattle.star.specs.Stops.{goes_on, ascii_goes_on};
+ghost use Rattle.star.specs.TestLaws.{small_goes_on, ascii_inside};
 
+use crate::star_chars;
+use crate::tests::{AsciiTest, CharTest};
 use chars::fixed::is_newline_char;
-use definition::{Match, Sequence};
+use definition::Sequence;
 use utf8::sequence_at;
 
-// Whether a character ends a run: it is a or b, or a line's end.
-fn stops(c: u32, a: u8, b: u8) -> bool
-    ensures { result ≡ stops a b c }
-{
-    if c == a as u32 {
-        return true;
-    }
-    if c == b as u32 {
-        return true;
-    }
-    is_newline_char(c)
+// A character that is neither `first` nor `second` nor a line's end.
+#[derive(Clone, Copy)]
+pub struct Inside {
+    pub first: u8,
+    pub second: u8,
 }
 
-// The end of a character that doesn't end a run. A byte of ASCII is a character by itself.
-fn one_inside(text: &[u8], a: u8, b: u8, i: usize) -> Match
-    ensures { result ≡ one (goes_on a b) text.now i }
-{
-    if text.len() <= i {
-        return Match::Nothing;
+impl AsciiTest for Inside {
+    ghost test = { λ t. ascii_goes_on t.first t.second };
+
+    ghost small = { λ t. small_goes_on t.first t.second };
+
+    fn passes(self, b: u8) -> bool {
+        b < 0x80 && self.passes_char(b as u32)
     }
-    if text[i] < 0x80 {
-        if stops(text[i] as u32, a, b) {
-            return Match::Nothing;
-        }
-        return Match::To(i + 1);
+}
+
+impl CharTest for Inside {
+    ghost char_test = { λ t. goes_on t.first t.second };
+
+    ghost agrees = { λ t. ascii_inside t.first t.second };
+
+    fn passes_char(self, c: u32) -> bool {
+        c != self.first as u32 && c != self.second as u32 && !is_newline_char(c)
     }
-    let Sequence::Char(c, width) = sequence_at(text, i) else {
-        return Match::Nothing;
-    };
-    if stops(c, a, b) {
-        return Match::Nothing;
-    }
-    Match::To(i + width)
 }
 
 // The end of the run of characters from i that are neither a nor b nor a line's end.
 pub fn run_end(text: &[u8], a: u8, b: u8, i: usize) -> usize
     ensures { result ≡ star (goes_on a b) text.now i }
 {
-    let mut j = i;
-    loop {
-        let Match::To(k) = one_inside(text, a, b, j) else {
-            return j;
-        };
-        j = k;
-    }
+    let inside = Inside {
+        first: a,
+        second: b,
+    };
+    star_chars(text, inside, i)
 }
 
 // The offset after the character at i; i itself where none stands.

@@ -1,4 +1,3 @@
 -- `Soundness` is what the soundness test says; the others are the cases of a function each.
 pub mod Soundness
-mod Ladders
 mod Starting

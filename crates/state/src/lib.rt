@@ -3,10 +3,12 @@
 #![tactic(auto)]
 
 ghost use Rattle.std.specs.Prelude.{◌≡◌};
-ghost use Rattle.definition.specs.State.{at_character, offsets_sound, counts_sound, depth_sound, comment_sound, sound, start, started};
-ghost use Rattle.definition.specs.Utf16.{by_second, utf16_start};
+ghost use Rattle.definition.specs.Answers.{start_said};
+ghost use Rattle.definition.specs.State.{at_character, offsets_sound, counts_sound, depth_sound, comment_sound, sound, start, started, nine_zeros};
+ghost use Rattle.definition.specs.Utf16.{by_second, utf16_start, utf16_zeros};
 
-use definition::{Pos, StartAnswer, State, Utf16StartAnswer, Utf16State};
+use definition::answers::StartRefusal;
+use definition::{Pos, State, Utf16State};
 
 // The largest line and the largest column that a start takes.
 const LARGEST_LINE: u32 = 1000000;
@@ -19,9 +21,9 @@ fn started(line: u32, column: u32) -> State
 {
     State {
         offset: 0,
-        line: line,
+        line,
         bol: 0,
-        column: column,
+        column,
         comments: 0,
         mode: 0,
         depth: 0,
@@ -29,148 +31,99 @@ fn started(line: u32, column: u32) -> State
     }
 }
 
-// Document 01's start: refusal 1 for a line above 1,000,000, then 2 for such a column; a refused start gives nine zeros.
-pub fn start(line: u32, column: u32) -> StartAnswer
-    ensures { result ≡ start line column }
+// Document 01's start, which refuses a line above 1,000,000, and then such a column.
+pub fn start(line: u32, column: u32) -> Result<State, StartRefusal>
+    ensures { start_said nine_zeros result ≡ start line column }
 {
     if LARGEST_LINE < line {
-        let zeros = started(0, 0);
-        return StartAnswer {
-            refusal: 1,
-            state: zeros,
-        };
+        return Err(StartRefusal::Line);
     }
     if LARGEST_COLUMN < column {
-        let zeros = started(0, 0);
-        return StartAnswer {
-            refusal: 2,
-            state: zeros,
-        };
+        return Err(StartRefusal::Column);
     }
-    let state = started(line, column);
-    StartAnswer {
-        refusal: 0,
-        state: state,
-    }
+    Ok(started(line, column))
 }
 
 // The second run's start: the given column is in both columns of the line start.
-pub fn utf16_start(line: u32, column: u32) -> Utf16StartAnswer
-    ensures { result ≡ utf16_start line column }
+pub fn utf16_start(line: u32, column: u32) -> Result<Utf16State, StartRefusal>
+    ensures { start_said utf16_zeros result ≡ utf16_start line column }
 {
-    let begun = start(line, column);
-    let first = begun.state;
-    let state = Utf16State {
-        first: first,
+    let first = start(line, column)?;
+    Ok(Utf16State {
+        first,
         column: first.column,
         comment: 0,
-    };
-    Utf16StartAnswer {
-        refusal: begun.refusal,
-        state: state,
-    }
+    })
 }
 
 // The nine numbers of the second run's saved state, with both second columns in the places of the first.
 pub fn by_second(g: Utf16State) -> State
     ensures { result ≡ by_second g }
 {
-    let first = g.first;
-    let comment = Pos {
-        line: first.comment.line,
-        col: g.comment,
-    };
     State {
-        offset: first.offset,
-        line: first.line,
-        bol: first.bol,
         column: g.column,
-        comments: first.comments,
-        mode: first.mode,
-        depth: first.depth,
-        comment: comment,
+        comment: Pos {
+            line: g.first.comment.line,
+            col: g.comment,
+        },
+        ..g.first
     }
 }
 
 // Whether i stands on a character's first byte or on the text's end.
+#[tactic(auto, unfolding(definition::specs::State::at_character, definition::specs::Position::is_continuation), using(lemmas::proofs::Cases::all_tests))]
 fn at_character(text: &[u8], i: u32) -> bool
     ensures { result ≡ at_character text.now i }
 {
-    let at = i as usize;
-    if at < text.len() {
-        let b = text[at];
-        if b < 0x80 {
-            return true;
-        }
-        return 0xBF < b;
+    match text.get(i as usize) {
+        Some(byte) => !matches!(byte, 0x80..=0xBF),
+        None => i as usize == text.len(),
     }
-    at == text.len()
 }
 
 // The offsets stand on characters, and the line start isn't past the offset.
+#[tactic(auto, unfolding(definition::specs::State::offsets_sound), using(lemmas::proofs::Cases::all_tests))]
 fn offsets_sound(text: &[u8], st: State) -> bool
     ensures { result ≡ offsets_sound text.now st }
 {
-    if at_character(text, st.offset) {
-        if at_character(text, st.bol) {
-            return st.bol <= st.offset;
-        }
-    }
-    false
+    at_character(text, st.offset) && at_character(text, st.bol) && st.bol <= st.offset
 }
 
 // Line, line-start column, comments with depth, and mode are within their limits. The sums are of 64 bits, so that none wraps.
+#[tactic(auto, unfolding(definition::specs::State::counts_sound), using(lemmas::proofs::Cases::all_tests))]
 fn counts_sound(st: State) -> bool
     ensures { result ≡ counts_sound st }
 {
-    if 1000000 + (st.offset as u64) < st.line as u64 {
-        return false;
-    }
-    if 1000000 < st.column {
-        return false;
-    }
-    if (st.offset as u64) < st.comments as u64 + st.depth as u64 {
-        return false;
-    }
-    st.mode <= 2
+    u64::from(st.line) <= 1000000 + u64::from(st.offset)
+        && st.column <= 1000000
+        && u64::from(st.comments) + u64::from(st.depth) <= u64::from(st.offset)
+        && st.mode <= 2
 }
 
 // The depth and the comment start are as the mode has them.
+#[tactic(auto, unfolding(definition::specs::State::depth_sound), using(lemmas::proofs::Cases::all_tests))]
 fn depth_sound(st: State) -> bool
     ensures { result ≡ depth_sound st }
 {
     if st.mode == 1 {
-        return 1 <= st.depth;
+        1 <= st.depth
+    } else {
+        st.depth == 0 && st.comment.line == 0 && st.comment.col == 0
     }
-    if st.depth != 0 {
-        return false;
-    }
-    if st.comment.line != 0 {
-        return false;
-    }
-    st.comment.col == 0
 }
 
 // The comment start is no later than the line and within the columns that there are.
+#[tactic(auto, unfolding(definition::specs::State::comment_sound), using(lemmas::proofs::Cases::all_tests))]
 fn comment_sound(st: State) -> bool
     ensures { result ≡ comment_sound st }
 {
-    if st.line < st.comment.line {
-        return false;
-    }
-    st.comment.col <= 2048576
+    st.comment.line <= st.line && st.comment.col <= 2048576
 }
 
 // Document 01's sound state.
+#[tactic(auto, unfolding(definition::specs::State::sound), using(lemmas::proofs::Cases::all_tests))]
 pub fn sound(text: &[u8], st: State) -> bool
     ensures { result ≡ sound text.now st }
 {
-    if offsets_sound(text, st) {
-        if counts_sound(st) {
-            if depth_sound(st) {
-                return comment_sound(st);
-            }
-        }
-    }
-    false
+    offsets_sound(text, st) && counts_sound(st) && depth_sound(st) && comment_sound(st)
 }

@@ -66,7 +66,7 @@ fn read_choice(
     act(text, name, classes, at, choice, rule)
 }
 
-// The item that stands ahead of a reader.
+// The item that stands ahead of a reader: what it may be is a closed list, and each arm stands for one line of `ahead_step`.
 pub fn read(text: &[u8], name: &[u8], classes: &[u8], at: Cursor, ahead: NextItem) -> Read
     requires { Readable text.now name.now classes.now at ahead × Lets name.now classes.now }
     ensures { Reads text.now name.now classes.now (ahead_step text.now name.now classes.now at.st ahead) result }

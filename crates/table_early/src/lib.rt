@@ -18,7 +18,8 @@ use choice::{keep, nothing};
 use definition::Choice;
 use match_lit::byte_is;
 
-// "Fixed literal tokens that come first": the words, padded to the longest, with their lengths and kinds.
+// "Fixed literal tokens that come first": the words, padded to the longest, with their lengths and kinds, in the form that document 01
+// names.
 const EARLY: [[u8; 20]; 15] = [
     *b"%splice\0\0\0\0\0\0\0\0\0\0\0\0\0",
     *b"%splice_t\0\0\0\0\0\0\0\0\0\0\0",
@@ -86,25 +87,20 @@ fn longest_early(text: &[u8], i: usize) -> Choice
     ensures { result ≡ try_words i 1 (λ w. match_lit text.now w i) 0 (words_of early_literals) (none_at i) }
 {
     let mut best = nothing(i);
-    let mut next = 0;
-    'words: while next < 15 {
-        let k = next;
-        next += 1;
+    'words: for k in 0..15usize {
         let n = EARLY_LENGTHS[k];
         let mut end = i;
-        let mut j = 0;
-        while j < n {
+        for j in 0..n {
             if !byte_is(text, end, early_byte(k, j)) {
                 continue 'words;
             }
             end += 1;
-            j += 1;
         }
         best = keep(
             best,
             Choice {
                 place: 1,
-                end: end,
+                end,
                 word: k,
             },
         );

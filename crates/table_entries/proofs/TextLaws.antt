@@ -1,39 +1,15 @@
--- Texts one after the other: what stands after a text's start is the text; and rules that hold of every number of a range. Rests on
--- the laws of lists.
-use Prim.Native.Nat.{ℕ, zero, suc, ◌+◌, ◌≤◌, ◌<◌}
-use mathlib.Core.Path.{◌≡◌, sym, ap, ◌∙◌}
+-- The texts are short; and rules that hold of every number of a range. Rests on the laws of lists.
+use Prim.Native.Nat.{ℕ, zero, suc, ◌+◌, ◌-◌, ◌≤◌, ◌<◌}
+use mathlib.Core.Path.{◌≡◌, refl, sym, ap, ◌∙◌}
 use mathlib.Core.Bool.{Bool, true, ◌&&◌}
-use mathlib.Core.List.{List, [], ◌∷◌, ◌++◌, append_assoc}
-use native.Mathlib.Nat.{not-suc-le-zero}
+use mathlib.Core.List.{List, [], ◌∷◌}
 use native.Mathlib.Omega.{arith}
-use lib.ListN.{length, get_or, length-append, get_or-append}
+use lib.ListN.{length, get_or, take, drop, replicate}
+use Rattle.std.proofs.lemmas.List.{get_or-drop, get_or-take}
 use lib.Dec.{eqb, leb}
-use lib.Seq.{get_or-append-add}
 use borrow.Author.Tests.{leb-true, eqb-true, eqb-false}
 use Rattle.definition.specs.Basics.{Bytes}
 use Rattle.lemmas.proofs.Cases.{by_outcome, both}
-use Rattle.table_entries.specs.Entries.{starts}
-
--- all texts
-abbrev pub joined : List Bytes → Bytes
-joined [] = []
-joined (t ∷ ts) = t ++ joined ts
-
--- a text ends within all of them
-pub text_within : (ts : List Bytes) (n k j : ℕ) → j < length (get_or ts k []) → get_or (starts n ts) k 0 + j < n + length (joined ts)
-text_within [] n k j h = absurd (not-suc-le-zero h)
-text_within (t ∷ ts) n zero j h = omega (arith, length-append t (joined ts))
-text_within (t ∷ ts) n (suc k) j h = omega (arith, text_within ts (n + length t) k j h, length-append t (joined ts))
-
--- byte j of text k stands j bytes after its start
-pub text_at : (ts : List Bytes) (b : Bytes) (k j : ℕ) → j < length (get_or ts k []) → get_or (b ++ joined ts) (get_or (starts (length b) ts) k 0 + j) 0 ≡ get_or (get_or ts k []) j 0
-text_at [] b k j h = absurd (not-suc-le-zero h)
-text_at (t ∷ ts) b zero j h = get_or-append-add b (t ++ joined ts) j 0 ∙ get_or-append t (joined ts) 0 j h
-text_at (t ∷ ts) b (suc k) j h =
-    let r = text_at ts (b ++ t) k j h in
-    ap (λ (l : Bytes). get_or l (get_or (starts (length b + length t) ts) k 0 + j) 0) (sym (append_assoc b t (joined ts)))
-    ∙ ap (λ (n : ℕ). get_or ((b ++ t) ++ joined ts) (get_or (starts n ts) k 0 + j) 0) (sym (length-append b t))
-    ∙ r
 
 -- no text is long
 abbrev pub all_short : List Bytes → Bool
@@ -44,6 +20,21 @@ pub short_at : (ts : List Bytes) → all_short ts ≡ true → (k : ℕ) → len
 short_at [] e k = omega arith
 short_at (t ∷ ts) e zero = leb-true (length t) 7 (both (leb (length t) 7) (all_short ts) e).0
 short_at (t ∷ ts) e (suc k) = short_at ts (both (leb (length t) 7) (all_short ts) e).1 k
+
+-- text k is that of a part of the texts, or none, where the part holds those from a on
+pub text_in : (ts : List Bytes) (a n k : ℕ) → a ≤ k → k < a + n → get_or (take n (drop a ts)) (k - a) [] ≡ get_or ts k []
+text_in ts a n k p q =
+    let e : a + (k - a) ≡ k = omega arith in
+    get_or-take n (drop a ts) (k - a) [] (omega arith) ∙ get_or-drop a ts (k - a) [] ∙ ap (λ (i : ℕ). get_or ts i []) e
+
+-- a text of a part in which there are none
+nothing_at : (n k : ℕ) → ◌≡◌ {A = Bytes} (get_or (replicate n []) k []) []
+nothing_at zero k = refl
+nothing_at (suc n) zero = refl
+nothing_at (suc n) (suc k) = nothing_at n k
+
+pub no_text : (ts : List Bytes) (a n k : ℕ) → take n (drop a ts) ≡ replicate n [] → a ≤ k → k < a + n → [] ≡ get_or ts k []
+no_text ts a n k e p q = sym (nothing_at n (k - a)) ∙ ap (λ (l : List Bytes). get_or l (k - a) []) (sym e) ∙ text_in ts a n k p q
 
 -- ---- rules of a range, by a computed test
 

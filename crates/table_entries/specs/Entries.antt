@@ -1,5 +1,5 @@
 -- The entries of the tables by which a word decides its token, one table after the other, and the texts of their tokens.
-use Rattle.std.specs.Prelude.{ℕ, ◌+◌, length, List, [], ◌∷◌, ◌++◌, map}
+use Rattle.std.specs.Prelude.{List, [], ◌∷◌, ◌++◌, map}
 use Rattle.definition.specs.Basics.{Bytes}
 use Rattle.definition.specs.Tables.{Entry, cps, keywords, constructors, uoperators, op_tokens, mixfix_rules}
 
@@ -9,8 +9,3 @@ entries = keywords ++ (constructors ++ (uoperators ++ (op_tokens ++ mixfix_rules
 -- the entries' texts, and that of the token `<`
 unfoldable pub texts : List Bytes
 texts = map (λ (e : Entry). cps e.text) entries ++ (cps "<" ∷ [])
-
--- where each text begins if the first begins at n
-abbrev pub starts : ℕ → List Bytes → List ℕ
-starts n [] = []
-starts n (t ∷ ts) = n ∷ starts (n + length t) ts

@@ -1,4 +1,5 @@
 -- Words that have another key than a lexeme are not the lexeme, so that they can be passed over. Rests on nothing but the definition.
+use Rattle.std.specs.Prelude.{Some, None}
 use Prim.Native.Nat.{ℕ, zero, suc, ◌+◌, ◌-◌, ◌≤◌, ◌<◌}
 use mathlib.Core.Path.{◌≡◌, refl, sym, ap, ap₂, ◌∙◌}
 use mathlib.Core.Bool.{Bool, true, false, ◌&&◌}
@@ -14,7 +15,6 @@ use Rattle.definition.specs.Tables.{keywords, constructors, uoperators}
 use Rattle.lemmas.proofs.Cases.{by_bool, by_outcome, both}
 use Rattle.table_words.specs.Words.{words}
 use Rattle.table_words.proofs.WordLaws.{same_equal}
-use Rattle.table_keywords.specs.declared.Word.TheVariants.{At, Nowhere}
 use Rattle.table_keywords.specs.Places.{place, key, hop, seek, Chain}
 
 -- A word with another key is not the lexeme.
@@ -118,7 +118,7 @@ seeking_starts c = record { ends = c.ends; rest = refl; keyed = c.keyed }
 
 module _ {id : Bytes} {from stop k : ℕ} (s : Seeking id from stop k) where
   -- The word at k decides first.
-  at_word : k < stop → seek id k stop ≡ elim (same (get_or words k []) id) [ true ↦ At k | false ↦ seek id (suc k) stop ]
+  at_word : k < stop → seek id k stop ≡ elim (same (get_or words k []) id) [ true ↦ Some k | false ↦ seek id (suc k) stop ]
   unfolding place
   at_word h =
       let e = s.ends in
@@ -126,7 +126,7 @@ module _ {id : Bytes} {from stop k : ℕ} (s : Seeking id from stop k) where
       let a : stop - k ≡ suc (stop - suc k) = omega arith in
       ap₂ (λ (m : ℕ) (l : List Bytes). place k id (take m l)) a (drop-cons words k [] n)
 
-  pub seeking_found : k < stop → same (get_or words k []) id ≡ true → At k ≡ seek id from stop
+  pub seeking_found : k < stop → same (get_or words k []) id ≡ true → Some k ≡ seek id from stop
   seeking_found h e = sym (rw e at (at_word h)) ∙ s.rest
 
   pub seeking_goes_on : k < stop → same (get_or words k []) id ≡ false → Seeking id from stop (hop (key (get_or words k [])) (suc k) (drop (suc k) words))
@@ -136,7 +136,7 @@ module _ {id : Bytes} {from stop k : ℕ} (s : Seeking id from stop k) where
       rw (s.keyed l)
       (record { ends = q; rest = sym (seek_skip id (suc k) stop h) ∙ sym (rw e at (at_word h)) ∙ s.rest; keyed = keyed_at (key id) (suc k) (omega arith) })
 
-  pub seeking_ends : stop ≤ k → Nowhere ≡ seek id from stop
+  pub seeking_ends : stop ≤ k → None ≡ seek id from stop
   unfolding place
   seeking_ends h =
       let z : stop - k ≡ 0 = omega arith in

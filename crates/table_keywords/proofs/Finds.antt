@@ -1,21 +1,19 @@
 -- A place in a table is where the definition's `find` finds the lexeme. Rests on nothing but the definition.
+use Rattle.std.specs.Prelude.{Some, None, Option}
 use Prim.Native.Nat.{ℕ, suc, ◌-◌, ◌≤◌}
 use mathlib.Core.Path.{◌≡◌, refl, ◌∙◌}
 use mathlib.Core.List.{List, [], ◌∷◌}
-use mathlib.Core.Option.{Option, none, some}
 use native.Mathlib.Omega.{arith}
 use Rattle.definition.specs.Basics.{Bytes, same}
 use Rattle.definition.specs.Tables.{Entry, cps, find, entry}
 use Rattle.lemmas.proofs.Cases.{by_outcome}
 use Rattle.table_words.specs.Words.{spelled}
-use Rattle.table_keywords.specs.declared.Word.{Word}
-use Rattle.table_keywords.specs.declared.Word.TheVariants.{At, Nowhere}
 use Rattle.table_keywords.specs.Places.{place}
 
 -- the entry at a place of a table whose first word is numbered n
-abbrev pub entry_at : ℕ → List Entry → Word → Option Entry
-entry_at n table (At w) = some (entry table (w - n))
-entry_at n table Nowhere = none
+abbrev pub entry_at : ℕ → List Entry → Option ℕ → Option Entry
+entry_at n table (Some w) = Some (entry table (w - n))
+entry_at n table None = None
 
 -- A place is not before the first word, so that it is one of the table after the first entry where it is not the first.
 later_entry : (n : ℕ) (id : Bytes) (e : Entry) (table : List Entry)

@@ -2,4 +2,3 @@ pub mod Chains
 pub mod Finds
 pub mod LookupLengths
 pub mod LengthLaws
-pub mod Prefix

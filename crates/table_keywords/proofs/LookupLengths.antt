@@ -1,4 +1,5 @@
 -- A lexeme that fails the test by its first byte and its length is no keyword. Rests on the law that every keyword passes it.
+use Rattle.std.specs.Prelude.{None}
 use Prim.Native.Nat.{ℕ, suc}
 use mathlib.Core.Path.{◌≡◌, refl, sym, ap, ◌∙◌}
 use mathlib.Core.Bool.{Bool, true, false}
@@ -10,11 +11,10 @@ use Rattle.table_words.proofs.WordLaws.{same_equal}
 use Rattle.table_words.specs.Words.{spelled}
 use Rattle.table_keywords.specs.Lengths.{may_be_keyword}
 use Rattle.table_keywords.proofs.LengthLaws.{all_pass, keywords_pass}
-use Rattle.table_keywords.specs.declared.Word.TheVariants.{Nowhere}
 use Rattle.table_keywords.specs.Places.{place}
 
 -- What fails a test that each word passes is none of them.
-place_none : (t : Bytes → Bool) (id : Bytes) (n : ℕ) (ws : List Bytes) → all_pass t ws ≡ true → t id ≡ false → place n id ws ≡ Nowhere
+place_none : (t : Bytes → Bool) (id : Bytes) (n : ℕ) (ws : List Bytes) → all_pass t ws ≡ true → t id ≡ false → place n id ws ≡ None
 unfolding place
 place_none t id n [] p q = refl
 place_none t id n (w ∷ ws) p q =
@@ -24,5 +24,5 @@ place_none t id n (w ∷ ws) p q =
     (λ e. rw (place, e) (place_none t id (suc n) ws b.1 q))
 
 -- What fails the test that every keyword passes is no keyword.
-pub no_keyword : (id : Bytes) → may_be_keyword id ≡ false → place 0 id (spelled keywords) ≡ Nowhere
+pub no_keyword : (id : Bytes) → may_be_keyword id ≡ false → place 0 id (spelled keywords) ≡ None
 no_keyword id = place_none may_be_keyword id 0 (spelled keywords) keywords_pass

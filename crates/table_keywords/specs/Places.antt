@@ -1,14 +1,12 @@
 -- Where a lexeme stands in a table of words, and the keys by which it is looked for.
-use Rattle.std.specs.Prelude.{ℕ, suc, ◌+◌, ◌-◌, ◌%◌, ◌≤◌, ◌<◌, ◌≡◌, true, false, List, [], ◌∷◌, eqb, length, get_or, take, drop}
+use Rattle.std.specs.Prelude.{ℕ, suc, ◌+◌, ◌-◌, ◌%◌, ◌≤◌, ◌<◌, ◌≡◌, true, false, List, [], ◌∷◌, eqb, length, get_or, take, drop, Option, Some, None}
 use Rattle.definition.specs.Basics.{Bytes, same}
 use Rattle.table_words.specs.Words.{words}
-use Rattle.table_keywords.specs.declared.Word.{Word}
-use Rattle.table_keywords.specs.declared.Word.TheVariants.{At, Nowhere}
 
 -- the number of the first word that is the lexeme, the first word being numbered n
-unfoldable pub place : ℕ → Bytes → List Bytes → Word
-place n id [] = Nowhere
-place n id (w ∷ ws) = elim (same w id) [ true ↦ At n | false ↦ place (suc n) id ws ]
+unfoldable pub place : ℕ → Bytes → List Bytes → Option ℕ
+place n id [] = None
+place n id (w ∷ ws) = elim (same w id) [ true ↦ Some n | false ↦ place (suc n) id ws ]
 
 -- the key of a word
 unfoldable pub key : Bytes → ℕ
@@ -20,7 +18,7 @@ hop h n [] = n
 hop h n (w ∷ ws) = elim (eqb (key w) h) [ true ↦ n | false ↦ hop h (suc n) ws ]
 
 -- the place of a lexeme among the words from k up to stop
-abbrev pub seek : Bytes → ℕ → ℕ → Word
+abbrev pub seek : Bytes → ℕ → ℕ → Option ℕ
 seek id k stop = place k id (take (stop - k) (drop k words))
 
 -- where start is a word, it has the lexeme's key

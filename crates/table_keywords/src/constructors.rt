@@ -7,21 +7,20 @@ ghost use Rattle.definition.specs.Tables.{constructors};
 ghost use Rattle.table_words.specs.Words.{spelled};
 ghost use Rattle.table_keywords.specs.Places.{place};
 
-use crate::Word;
 use table_words::spellings::is_word;
 
 // The place of a constructor, after the keywords.
-pub fn constructor(id: &[u8]) -> Word
+pub fn constructor(id: &[u8]) -> Option<usize>
     ensures { result ≡ place 86 id.now (spelled constructors) }
 {
     if is_word(id, 86) {
-        return Word::At(86);
+        return Some(86);
     }
     if is_word(id, 87) {
-        return Word::At(87);
+        return Some(87);
     }
     if is_word(id, 88) {
-        return Word::At(88);
+        return Some(88);
     }
-    Word::Nowhere
+    None
 }

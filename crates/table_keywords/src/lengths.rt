@@ -1,6 +1,5 @@
 // Whether a lexeme may be a keyword, by its first byte and its length. Most identifiers are no keyword: this settles four
-// fifths of them. A table is built anew in each function that reads it; the constants of a `match` are not, so the lengths
-// stand in one.
+// fifths of them. The lengths stand in a `match`, which the compiler makes a table of.
 //
 // Proved: each function is its definition in specs/Lengths.antt, and no keyword fails the test (`keywords_pass`,
 // proofs/LengthLaws.antt).

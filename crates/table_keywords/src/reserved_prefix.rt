@@ -11,15 +11,5 @@ const RESERVED_PREFIX: [u8; 5] = *b"uu___";
 pub fn reserved(id: &[u8]) -> bool
     ensures { result ≡ starts_with id.now reserved_prefix }
 {
-    let mut i = 0;
-    while i < 5 {
-        if id.len() <= i {
-            return false;
-        }
-        if id[i] != RESERVED_PREFIX[i] {
-            return false;
-        }
-        i += 1;
-    }
-    true
+    id.starts_with(&RESERVED_PREFIX)
 }

@@ -6,7 +6,7 @@
 // of the table's words where one is asked about.
 #![tactic(auto)]
 
-ghost use Rattle.std.specs.Prelude.{◌≡◌, [], ◌<◌, length, get_or};
+ghost use Rattle.std.specs.Prelude.{◌≡◌, [], ◌<◌, ◌≤◌, length, get_or, MatchOption, IfSome};
 ghost use Rattle.definition.specs.Chars.{ascii_table, op_char_cps, is_op_char};
 ghost use Rattle.definition.specs.Kinds.{kind};
 ghost use Rattle.definition.specs.Tables.{cps, kw_op_words, kw_op_entry};
@@ -16,11 +16,13 @@ ghost use Rattle.table_words.specs.Rows.{numbered, padded, first_fit};
 ghost use Rattle.table_kw_op.specs.KeywordReach.{Reach};
 
 use choice::nothing;
-use definition::{Choice, Match};
+use definition::Choice;
 use match_lit::byte_is;
-use star::{op_char_at, plus_op_char};
+use star::tests::OpChar;
+use star::{passes_at, plus_ascii};
 
-// The words that operator characters may follow, with the kind of the word and that of the word with such characters.
+// The words that operator characters may follow, with the kind of the word and that of the word with such characters, in the form that
+// document 01 names.
 const KW_OPS: [[u8; 6]; 9] = [
     *b"match\0",
     *b"if\0\0\0\0",
@@ -67,42 +69,38 @@ fn kw_op_byte(k: usize, j: usize) -> u8
     KW_OPS[k][j]
 }
 
-// The number of the first keyword-operator word that stands at i, or 9 where none does. No such word begins another.
-pub fn kw_op_word(text: &[u8], i: usize) -> usize
-    ensures { result ≡ first_fit text.now i (numbered 0 kw_op_words) }
+// The number of the first keyword-operator word that stands at i. No such word begins another.
+pub fn kw_op_word(text: &[u8], i: usize) -> Option<usize>
+    ensures { MatchOption result (9 ≤ first_fit text.now i (numbered 0 kw_op_words)) (λ k. (k ≡ first_fit text.now i (numbered 0 kw_op_words)) × (k < 9)) }
 {
-    let mut k = 0;
-    'words: while k < 9 {
+    'words: for k in 0..9usize {
         let n = KW_OP_LENGTHS[k];
         let mut end = i;
-        let mut j = 0;
-        while j < n {
+        for j in 0..n {
             if !byte_is(text, end, kw_op_byte(k, j)) {
-                k += 1;
                 continue 'words;
             }
             end += 1;
-            j += 1;
         }
-        break 'words;
+        return Some(k);
     }
-    k
+    None
 }
 
-// How long the keyword-operator word is that begins with a byte of ASCII: each begins but one. 0 for a byte that begins none,
-// and for all bytes beyond ASCII, where such words are rare.
-fn kw_op_reach(a: u8) -> usize
-    ensures { Reach a result }
+// How long the keyword-operator word is that begins with a byte of ASCII: each begins but one. Nothing for a byte that begins
+// none, and for all bytes beyond ASCII, where such words are rare.
+fn kw_op_reach(a: u8) -> Option<usize>
+    ensures { IfSome result (Reach a) }
 {
     match a {
-        b'm' => 5,
-        b'i' => 2,
-        b'l' => 3,
-        b'e' => 6,
-        b'f' => 6,
-        b'a' => 3,
-        b';' => 1,
-        _ => 0,
+        b'm' => Some(5),
+        b'i' => Some(2),
+        b'l' => Some(3),
+        b'e' => Some(6),
+        b'f' => Some(6),
+        b'a' => Some(3),
+        b';' => Some(1),
+        _ => None,
     }
 }
 
@@ -116,23 +114,21 @@ pub fn kw_op(text: &[u8], table: &[bool; 128], i: usize) -> Choice
     if text.len() <= i {
         return nothing(i);
     }
-    let n = kw_op_reach(text[i]);
-    if n != 0 {
-        if !op_char_at(text, table, i + n) {
+    if let Some(n) = kw_op_reach(text[i]) {
+        if !passes_at(text, OpChar { table }, i + n) {
             return nothing(i);
         }
     }
-    let word = kw_op_word(text, i);
-    if 9 <= word {
+    let Some(word) = kw_op_word(text, i) else {
         return nothing(i);
-    }
-    let Match::To(end) = plus_op_char(text, table, i + KW_OP_LENGTHS[word]) else {
+    };
+    let Some(end) = plus_ascii(text, OpChar { table }, i + KW_OP_LENGTHS[word]) else {
         return nothing(i);
     };
     Choice {
         place: 12,
-        end: end,
-        word: word,
+        end,
+        word,
     }
 }
 

@@ -1,4 +1,5 @@
 -- What the search finds is what trying every mixfix word gives: they all begin with a point. Rests on the laws of rows (crate `table_words`).
+use Rattle.std.specs.Prelude.{Option}
 use Prim.Native.Nat.{ℕ}
 use mathlib.Core.Path.{◌≡◌, refl, sym}
 use mathlib.Core.Bool.{false}
@@ -9,7 +10,6 @@ use Rattle.definition.specs.Text.{byte_is}
 use Rattle.definition.specs.Tables.{cps, mixfix_rules, words_of}
 use Rattle.definition.specs.Matchers.{match_lit}
 use Rattle.definition.specs.Select.{none_at, try_words}
-use Rattle.definition.specs.declared.Match.{Match}
 use Rattle.table_words.specs.Rows.{Row, numbered, only_rows, try_rows}
 use Rattle.table_words.proofs.RowLaws.{words_rows, all_left, starts_other, missing_start}
 
@@ -20,7 +20,7 @@ mixfix_points = refl
 
 module _ (s : Bytes) (i : ℕ) where
   -- a word of a table
-  abbrev lit : Bytes → Match
+  abbrev lit : Bytes → Option ℕ
   lit w = match_lit s w i
 
   -- At a point all are tried.

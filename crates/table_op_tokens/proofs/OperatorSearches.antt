@@ -1,5 +1,6 @@
 -- What the search finds is what trying every word of the definition's table gives: the operator tokens that begin with the text's byte. Rests
 -- on the laws of rows (crate `table_words`) and on what is computed.
+use Rattle.std.specs.Prelude.{Option}
 use Prim.Native.Nat.{ℕ, ◌≤◌, ◌<◌}
 use mathlib.Core.Path.{◌≡◌, refl, sym, ap, ◌∙◌}
 use mathlib.Core.List.{List}
@@ -9,7 +10,6 @@ use Rattle.definition.specs.Basics.{Bytes, mem_cp}
 use Rattle.definition.specs.Tables.{op_tokens, words_of}
 use Rattle.definition.specs.Matchers.{match_lit}
 use Rattle.definition.specs.Select.{none_at, try_words}
-use Rattle.definition.specs.declared.Match.{Match}
 use Rattle.lemmas.proofs.Members.{Rest, no_key}
 use Rattle.table_words.specs.Rows.{Row, numbered, try_rows, starts_with, tokens_at}
 use Rattle.table_words.proofs.RowLaws.{words_rows, rows_left, all_left, is_empty, other_start, past_end}
@@ -17,7 +17,7 @@ use Rattle.table_op_tokens.proofs.Computed.{tokens_full, first_bytes, tokens_non
 
 module _ (s : Bytes) (i : ℕ) where
   -- a word of a table
-  abbrev lit : Bytes → Match
+  abbrev lit : Bytes → Option ℕ
   lit w = match_lit s w i
 
   -- Past the end there is none.

@@ -17,24 +17,17 @@ ghost use Rattle.table_words.specs.Rows.{try_rows};
 
 use crate::tokens_at::{
     at_bar, at_brace, at_bracket, at_colon, at_dollar, at_equals, at_less, at_minus, at_paren,
-    at_point, at_question, at_returns, at_tilde,
+    at_point, at_question, at_tilde,
 };
 use choice::attempts::try_word;
 use choice::nothing;
 use definition::Choice;
 
-// An operator token of one byte, by itself. The byte is a parameter: a `match` whose arms have byte strings takes the checker long.
-fn only_byte(text: &[u8], i: usize, a: u8, number: usize) -> Choice
-    ensures { result ≡ try_rows i 36 (λ w. match_lit text.now w i) ((number, a ∷ []) ∷ []) (none_at i) }
+// An operator token by itself.
+fn only(text: &[u8], i: usize, word: &[u8], number: usize) -> Choice
+    ensures { result ≡ try_rows i 36 (λ w. match_lit text.now w i) ((number, word.now) ∷ []) (none_at i) }
 {
-    try_word(nothing(i), text, i, 36, &[a], number)
-}
-
-// An operator token of two bytes, by itself.
-fn only_pair(text: &[u8], i: usize, a: u8, b: u8, number: usize) -> Choice
-    ensures { result ≡ try_rows i 36 (λ w. match_lit text.now w i) ((number, a ∷ b ∷ []) ∷ []) (none_at i) }
-{
-    try_word(nothing(i), text, i, 36, &[a, b], number)
+    try_word(nothing(i), text, i, 36, word, number)
 }
 
 // The longest of the operator tokens at i: only those that begin with the byte there are tried.
@@ -46,30 +39,30 @@ pub fn op_token(text: &[u8], i: usize) -> Choice
     }
     let first = text[i];
     match first {
-        b'!' => only_pair(text, i, b'!', b'{', 39),
-        b'#' => only_byte(text, i, b'#', 9),
+        b'!' => only(text, i, b"!{", 39),
+        b'#' => only(text, i, b"#", 9),
         b'$' => at_dollar(text, i),
-        b'%' => only_pair(text, i, b'%', b'[', 37),
-        b'&' => only_byte(text, i, b'&', 11),
+        b'%' => only(text, i, b"%[", 37),
+        b'&' => only(text, i, b"&", 11),
         b'(' => at_paren(text, i),
-        b')' => only_byte(text, i, b')', 14),
-        b',' => only_byte(text, i, b',', 15),
+        b')' => only(text, i, b")", 14),
+        b',' => only(text, i, b",", 15),
         b'-' => at_minus(text, i),
         b'.' => at_point(text, i),
-        b'/' => only_pair(text, i, b'/', b'\\', 2),
+        b'/' => only(text, i, b"/\\", 2),
         b':' => at_colon(text, i),
-        b';' => only_byte(text, i, b';', 35),
+        b';' => only(text, i, b";", 35),
         b'<' => at_less(text, i),
         b'=' => at_equals(text, i),
         b'?' => at_question(text, i),
         b'[' => at_bracket(text, i),
-        b'\\' => only_pair(text, i, b'\\', b'/', 3),
-        b']' => only_byte(text, i, b']', 47),
-        b'r' => at_returns(text, i),
-        b'u' => only_pair(text, i, b'u', b'#', 10),
+        b'\\' => only(text, i, b"\\/", 3),
+        b']' => only(text, i, b"]", 47),
+        b'r' => only(text, i, b"returns$", 38),
+        b'u' => only(text, i, b"u#", 10),
         b'{' => at_brace(text, i),
         b'|' => at_bar(text, i),
-        b'}' => only_byte(text, i, b'}', 52),
+        b'}' => only(text, i, b"}", 52),
         b'~' => at_tilde(text, i),
         _ => nothing(i),
     }

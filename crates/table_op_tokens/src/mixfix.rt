@@ -1,5 +1,5 @@
 // The mixfix words, searched at an offset: one of the definition's tables of words that `select` tries. Each is tried by
-// itself: a table of them would have to be built anew at each token.
+// itself: a short word that is written where it is compared costs nothing.
 //
 // Proved: the search answers what trying every word of the definition's table in turn gives. That the words in the code are the
 // definition's is computed from its table.

@@ -1,5 +1,5 @@
-// The operator tokens by their first bytes, for the bytes with which several begin, and `returns$`. Each is tried by itself: a
-// table of them would have to be built anew at each token.
+// The operator tokens by their first bytes, for the bytes with which several begin. Each is tried by itself: a short word that is
+// written where it is compared costs nothing.
 //
 // Proved: each function answers what trying those of the definition's operator tokens that begin with the byte gives. That the
 // words in the code are the definition's is computed from its table.
@@ -13,13 +13,6 @@ ghost use Rattle.table_words.specs.Rows.{tokens_at, try_rows};
 use choice::attempts::try_word;
 use choice::nothing;
 use definition::Choice;
-
-// The token that begins with `r`.
-pub fn at_returns(text: &[u8], i: usize) -> Choice
-    ensures { result ≡ try_rows i 36 (λ w. match_lit text.now w i) (tokens_at (ch "r")) (none_at i) }
-{
-    try_word(nothing(i), text, i, 36, b"returns$", 38)
-}
 
 // The tokens that begin with `$`.
 pub fn at_dollar(text: &[u8], i: usize) -> Choice

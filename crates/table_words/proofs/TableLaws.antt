@@ -1,4 +1,5 @@
 -- Tables of rows of padded bytes: what the code reads at a row and a byte is the word's byte. Rests on the laws of lists.
+use Rattle.std.specs.Prelude.{Some, None}
 use Prim.Native.Nat.{ℕ, zero, suc, ◌+◌, ◌≤◌, ◌<◌}
 use Prim.Native.String.{String}
 use mathlib.Core.Path.{◌≡◌, refl, sym, ap, ◌∙◌}
@@ -14,7 +15,6 @@ use Rattle.definition.specs.Basics.{Bytes}
 use Rattle.definition.specs.Chars.{count_up}
 use Rattle.definition.specs.Text.{byte_is}
 use Rattle.definition.specs.Matchers.{match_lit}
-use Rattle.definition.specs.declared.Match.TheVariants.{To, Nothing}
 use Rattle.lemmas.proofs.Cases.{both}
 use Rattle.match_lit.proofs.ByteLaws.{lit_on, lit_stop, lit_done}
 use Rattle.table_words.specs.Rows.{Row, numbered, pad, padded}
@@ -85,7 +85,7 @@ compare_start rs s h e = record { row = h; count = e; rest = refl }
 
 module _ (width : ℕ) (rs : List Row) (short : all_short width rs ≡ true) (s : Bytes) {i k n end j : ℕ} (c : Comparing rs s i k n end j) where
   -- After its last byte the word is there.
-  pub compared : n ≤ j → match_lit s (word_at rs k) i ≡ To end
+  pub compared : n ≤ j → match_lit s (word_at rs k) i ≡ Some end
   compared h = sym c.rest ∙ lit_done s (word_at rs k) j end (omega (arith, c.count))
 
   module _ (h : j < n) where
@@ -99,7 +99,7 @@ module _ (width : ℕ) (rs : List Row) (short : all_short width rs ≡ true) (s 
       same_byte t e = ap (λ (x : ℕ). byte_is x s end) (sym (q ∙ row_byte width rs short k j c.row (omega (arith, c.count)))) ∙ e
 
       -- If it isn't the text's the word isn't there.
-      pub compare_stop : byte_is b s end ≡ false → match_lit s (word_at rs k) i ≡ Nothing
+      pub compare_stop : byte_is b s end ≡ false → match_lit s (word_at rs k) i ≡ None
       compare_stop e = sym c.rest ∙ lit_stop s (word_at rs k) j end (omega (arith, c.count)) (same_byte false e)
 
       -- If it is the comparison goes on.

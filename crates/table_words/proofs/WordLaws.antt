@@ -1,30 +1,13 @@
--- A lexeme against a word, and the arms of a `match` over words. Rests on nothing but the definition.
-use Prim.Native.Nat.{ℕ, zero, suc, ◌+◌, ◌≤◌, ◌<◌}
-use mathlib.Core.Path.{◌≡◌, refl, sym, ap, ap₂, ◌∙◌}
+-- A lexeme against a word. Rests on nothing but the definition.
+use Prim.Native.Nat.{ℕ}
+use mathlib.Core.Path.{◌≡◌, refl, sym, ap₂}
 use mathlib.Core.Bool.{Bool, true, false, false≢true}
-use mathlib.Core.List.{List, [], ◌∷◌}
-use native.Mathlib.Omega.{arith}
+use mathlib.Core.List.{[], ◌∷◌}
 use lib.Dec.{eqb}
-use lib.ListN.{length}
-use lib.Seq.{take_all}
 use borrow.Author.Tests.{eq-eqb, ne_eqb, eqb-true, eqb-false}
 use Rattle.definition.specs.Basics.{Bytes, same}
-use Rattle.definition.specs.Token.{starts_with}
+use Rattle.std.specs.Str.{bytes_eq}
 use Rattle.lemmas.proofs.Cases.{by_bool, by_outcome}
-use Rattle.lemmas.proofs.Members.{Rest}
-
--- the keys of a `match` with an arm for each of the n numbers from a on, the last one first
-abbrev pub arms : ℕ → ℕ → List (List ℕ)
-arms a zero = []
-arms a (suc n) = ((a + n) ∷ []) ∷ arms a n
-
--- Such a `match` leaves none of these numbers to its last arm.
-pub none_left : (a n k : ℕ) → Rest (arms a n) k → a ≤ k → k < a + n → ⊥
-none_left a zero k h p q = omega arith
-none_left a (suc n) k (h, m) p q =
-    by_outcome (eqb k (a + n))
-    (λ e. m (eqb-true k (a + n) e))
-    (λ e. let d = eqb-false k (a + n) e in none_left a n k h p (omega arith))
 
 -- Two lists that are the same are equal.
 pub same_equal : (a b : Bytes) → same a b ≡ true → a ≡ b
@@ -39,24 +22,13 @@ same_equal (x ∷ a) (y ∷ b) e =
     refl
     e
 
--- The same test from either side.
-same_sym : (a b : Bytes) → same a b ≡ same b a
+-- The library's test of a lexeme and a word is the definition's.
+pub compares : (id w : Bytes) → bytes_eq id w ≡ same w id
 unfolding same
-same_sym [] [] = refl
-same_sym [] (y ∷ b) = refl
-same_sym (x ∷ a) [] = refl
-same_sym (x ∷ a) (y ∷ b) =
+compares [] [] = refl
+compares [] (y ∷ w) = refl
+compares (x ∷ id) [] = refl
+compares (x ∷ id) (y ∷ w) =
     by_outcome (eqb x y)
-    (λ e. rw (same, e, eq-eqb y x (sym (eqb-true x y e)), same) (same_sym a b))
+    (λ e. rw (same, e, eq-eqb y x (sym (eqb-true x y e)), same) (compares id w))
     (λ e. rw (same, e, ne_eqb y x (λ q. eqb-false x y e (sym q)), same))
-
--- A lexeme as long as the word begins with it where it is the word.
-pub whole : (id w : Bytes) → length id ≡ length w → starts_with id w ≡ same w id
-unfolding starts_with
-whole id w e =
-    let h : length id ≤ length w = omega arith in
-    ap (λ (l : Bytes). same l w) (take_all (length w) id h) ∙ same_sym id w
-
--- One of another length is not the word.
-pub other_length : (id w : Bytes) → (length id ≡ length w → ⊥) → false ≡ same w id
-other_length id w n = by_outcome (same w id) (λ e. absurd (n (ap length (sym (same_equal w id e))))) (λ e. sym e)

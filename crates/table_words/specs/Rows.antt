@@ -1,14 +1,12 @@
 -- The definition's tables as rows of a number and a word: trying some of them in turn, the first that fits, and those that may stand
 -- where a byte does.
-use Rattle.std.specs.Prelude.{ℕ, zero, suc, Bool, true, false, ◌&&◌, List, [], ◌∷◌, ◌++◌, map, eqb, take, replicate}
+use Rattle.std.specs.Prelude.{ℕ, zero, suc, Bool, true, false, ◌&&◌, List, [], ◌∷◌, ◌++◌, map, eqb, take, replicate, Option, Some, None}
 use Prim.Native.String.{String}
 use Rattle.definition.specs.Basics.{Bytes}
 use Rattle.definition.specs.Tables.{cps, op_tokens, words_of}
 use Rattle.definition.specs.Matchers.{match_lit}
 use Rattle.definition.specs.Select.{keep, found}
 use Rattle.definition.specs.declared.Choice.{Choice}
-use Rattle.definition.specs.declared.Match.{Match}
-use Rattle.definition.specs.declared.Match.TheVariants.{To, Nothing}
 
 -- a word and its number in its table
 abbrev pub Row : Type 0
@@ -28,14 +26,14 @@ abbrev pub padded : ℕ → List Row → List Bytes
 padded n rs = map (λ (r : Row). pad n r.1) rs
 
 -- each row is tried in turn, as the definition's `try_words` tries the words of a table
-unfoldable pub try_rows : ℕ → ℕ → (Bytes → Match) → List Row → Choice → Choice
+unfoldable pub try_rows : ℕ → ℕ → (Bytes → Option ℕ) → List Row → Choice → Choice
 try_rows i place m [] best = best
 try_rows i place m (r ∷ rs) best = try_rows i place m rs (keep best (found i place r.0 (m r.1)))
 
 -- how many rows there are before the first whose word stands at i
 unfoldable pub first_fit : Bytes → ℕ → List Row → ℕ
 first_fit s i [] = zero
-first_fit s i (r ∷ rs) = elim (match_lit s r.1 i) [ To e ↦ zero | Nothing ↦ suc (first_fit s i rs) ]
+first_fit s i (r ∷ rs) = elim (match_lit s r.1 i) [ Some e ↦ zero | None ↦ suc (first_fit s i rs) ]
 
 -- the rows that pass a test
 abbrev pub only_rows : (Row → Bool) → List Row → List Row

@@ -9,9 +9,9 @@ use lib.ListN.{length, get_or}
 use Rattle.definition.specs.Basics.{Bytes, ch}
 use Rattle.definition.specs.Trim.{onto_first, split_lines, empty_prefix, trim_width}
 use Rattle.lemmas.proofs.Cases.{tests, by_order, by_outcome, by_test}
-use Rattle.trim_lines.specs.Trimming.{piece, narrow, width_of, narrowest}
+use Rattle.trim_lines.specs.Trimming.{narrow, width_of, narrowest}
 use Rattle.trim_lines.specs.declared.Margin.{Margin}
-use Rattle.trim_lines.proofs.Pieces.{piece_cons, piece_past}
+use Rattle.trim_lines.proofs.Pieces.{coming, coming_cons, coming_past}
 
 -- ---- one byte more, an equation for each case
 
@@ -146,10 +146,10 @@ width_none m (b ∷ l) z = width_none (narrow m b) l (stays m b z)
         (λ q. rw (narrow_other m b e h q) (omega arith))))
 
 -- Within the piece's part of the text, the byte there narrows the margin.
-width_on : (s : Bytes) (m : Margin) (at to : ℕ) → at < to → to ≤ length s
-    → width_of m (piece s at to) ≡ width_of (narrow m (get_or s at 0)) (piece s (at + 1) to)
+width_on : (m : Margin) (part : Bytes) (i : ℕ) → i < length part
+    → width_of m (coming part i) ≡ width_of (narrow m (get_or part i 0)) (coming part (i + 1))
 unfolding width_of
-width_on s m at to h k = ap (width_of m) (piece_cons at to s h k)
+width_on m part i h = ap (width_of m) (coming_cons part i h)
 
 -- The two bytes of the piece's end decide what is left of its last line.
 mark_width : (m : Margin) → width_of m (ch "*" ∷ ch ")" ∷ []) ≡ narrowest m
@@ -163,21 +163,26 @@ mark_width m =
     ∙ ap (λ (n : Margin). n.width) (narrow_decided n (ch ")") refl (omega arith)) ∙ simp (tests, narrowest))
 
 -- So they do after the part of the text.
-width_end : (s : Bytes) (m : Margin) (at to : ℕ) → to ≤ at → to ≤ length s → width_of m (piece s at to) ≡ narrowest m
-width_end s m at to h k = ap (width_of m) (piece_past at to s h k) ∙ mark_width m
+width_end : (m : Margin) (part : Bytes) (i : ℕ) → length part ≤ i → width_of m (coming part i) ≡ narrowest m
+width_end m part i h = ap (width_of m) (coming_past part i h) ∙ mark_width m
 
 -- ---- a walk over a piece
 
--- at an offset of the piece's part of the text: the margin gives what the whole piece gives, with few enough spaces to count on
-pub record Going (s : Bytes) (from to column : ℕ) (m : Margin) (at : ℕ) : Type 0 where
-  pub same : width_of m (piece s at to) ≡ trim_width column (split_lines (piece s from to))
-  pub few : m.spaces ≤ at
+-- after i bytes of the piece's part of the text: the margin gives what the whole piece gives, with few enough spaces to count on
+pub record Going (column : ℕ) (all part : Bytes) (m : Margin) (i : ℕ) : Type 0 where
+  pub same : width_of m (coming part i) ≡ trim_width column (split_lines all)
+  pub few : m.spaces ≤ i
 
-pub going_on : {s : Bytes} {from to column at : ℕ} {m n : Margin} → to ≤ length s → at < to → Going s from to column m at
-    → n ≡ narrow m (get_or s at 0) → Going s from to column n (at + 1)
-going_on {s} {from} {to} {column} {at} {m} {n} k h g e =
-    rw e record { same = sym (width_on s m at to h k) ∙ g.same; few = omega (arith, narrow_spaces m (get_or s at 0), g.few) }
+pub going_starts : {column : ℕ} {all part : Bytes} → coming part 0 ≡ all → Going column all part (record { width = column; spaces = 0 }) 0
+going_starts {column} {all} e = record {
+  same = ap (width_of (record { width = column; spaces = 0 })) e ∙ sym (width_is column all);
+  few = omega arith;
+}
 
-pub going_ends : {s : Bytes} {from to column at : ℕ} {m : Margin} → to ≤ length s → to ≤ at → Going s from to column m at
-    → narrowest m ≡ trim_width column (split_lines (piece s from to))
-going_ends {s} {at = at} {m} k h g = sym (width_end s m at _ h k) ∙ g.same
+module _ {column i : ℕ} {all part : Bytes} {m : Margin} (g : Going column all part m i) where
+  pub going_on : {n : Margin} → i < length part → n ≡ narrow m (get_or part i 0) → Going column all part n (i + 1)
+  going_on h e =
+      rw e record { same = sym (width_on m part i h) ∙ g.same; few = omega (arith, narrow_spaces m (get_or part i 0), g.few) }
+
+  pub going_ends : length part ≤ i → narrowest m ≡ trim_width column (split_lines all)
+  going_ends h = sym (width_end m part i h) ∙ g.same

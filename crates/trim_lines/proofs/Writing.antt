@@ -11,8 +11,8 @@ use Rattle.definition.specs.Basics.{Bytes, ch}
 use Rattle.lemmas.specs.Over.{over}
 use Rattle.lemmas.proofs.Cases.{by_outcome}
 use Rattle.lemmas.proofs.Copies.{Copied, copied_starts, copied_length, copied_goes_on, copied_ends}
-use Rattle.trim_lines.specs.Trimming.{piece, keeps, left_after, kept, Fits, Puts}
-use Rattle.trim_lines.proofs.Pieces.{piece_cons, piece_past}
+use Rattle.trim_lines.specs.Trimming.{keeps, left_after, kept, Fits, Puts}
+use Rattle.trim_lines.proofs.Pieces.{coming, coming_cons, coming_past}
 use Rattle.trim_lines.proofs.Kept.{kept_stays, kept_goes}
 
 -- n of the bytes bs are written, and what stays of the bytes to come is the others
@@ -66,11 +66,11 @@ module _ {bs before : Bytes} {width : ℕ} where
 
   -- ---- a piece
 
-  module _ (s : Bytes) (at to : ℕ) {left n : ℕ} {after : Bytes} (k : to ≤ length s) (w : Writing bs before width left (piece s at to) n after) where
+  module _ (part : Bytes) (i : ℕ) {left n : ℕ} {after : Bytes} (w : Writing bs before width left (coming part i) n after) where
     -- Within its part of the text the byte there comes next.
-    pub writing_at : at < to → Writing bs before width left (get_or s at 0 ∷ piece s (at + 1) to) n after
-    writing_at h = rw (piece_cons at to s h k) at w
+    pub writing_at : i < length part → Writing bs before width left (get_or part i 0 ∷ coming part (i + 1)) n after
+    writing_at h = rw (coming_cons part i h) at w
 
     -- After it the two bytes of the piece's end do.
-    pub writing_mark : to ≤ at → Writing bs before width left (ch "*" ∷ ch ")" ∷ []) n after
-    writing_mark h = rw (piece_past at to s h k) at w
+    pub writing_mark : length part ≤ i → Writing bs before width left (ch "*" ∷ ch ")" ∷ []) n after
+    writing_mark h = rw (coming_past part i h) at w

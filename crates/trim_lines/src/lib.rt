@@ -10,9 +10,9 @@ ghost use Rattle.std.specs.Prelude.{◌≡◌, ◌<◌, ◌≤◌, length};
 ghost use Rattle.definition.specs.Trim.{trim_width, split_lines};
 ghost use Rattle.reader.specs.Described.{trimmed};
 ghost use Rattle.lemmas.specs.Over.{over};
-ghost use Rattle.trim_lines.specs.Trimming.{piece, narrow, narrowest, keeps, left_after, one_if, Short, Room, Puts, Fits};
+ghost use Rattle.trim_lines.specs.Trimming.{piece, narrow, narrowest, keeps, left_after, Short, Room, Puts, Fits};
 
-use reader::span;
+use reader::part;
 
 // The width so far, and the spaces that the line begins with. Where these are more than the width, the rest of the line
 // doesn't matter: it holds enough spaces, or another byte was met already.
@@ -68,13 +68,11 @@ pub fn trim_width(text: &[u8], from: usize, to: usize, column: usize) -> usize
         width: column,
         spaces: 0,
     };
-    let mut at = from;
-    while at < to {
+    for &b in part(text, from, to) {
         if margin.width == 0 {
             return 0;
         }
-        margin = narrow(margin, text[at]);
-        at += 1;
+        margin = narrow(margin, b);
     }
     narrowest(margin)
 }
@@ -83,10 +81,7 @@ pub fn trim_width(text: &[u8], from: usize, to: usize, column: usize) -> usize
 fn keeps(left: usize, b: u8) -> bool
     ensures { result ≡ keeps left b }
 {
-    if b == b'\n' {
-        return true;
-    }
-    left == 0
+    b == b'\n' || left == 0
 }
 
 // How many bytes the line still loses after a byte.
@@ -96,17 +91,7 @@ fn left_after(width: usize, left: usize, b: u8) -> usize
     if b == b'\n' {
         return width;
     }
-    span(1, left)
-}
-
-// 1 for a byte that stays, 0 for another.
-fn counts(left: usize, b: u8) -> usize
-    ensures { result ≡ one_if (keeps left b) }
-{
-    if keeps(left, b) {
-        return 1;
-    }
-    0
+    left.saturating_sub(1)
 }
 
 // How many bytes a piece has whose every line lost `width` of its own.
@@ -115,17 +100,15 @@ pub fn trimmed_length(text: &[u8], from: usize, to: usize, width: usize) -> usiz
     ensures { result ≡ length (trimmed width (piece text.now from to)) }
 {
     if width == 0 {
-        return span(from, to) + 2;
+        return to.saturating_sub(from) + 2;
     }
     let mut length: usize = 0;
     let mut left = width;
-    let mut at = from;
-    while at < to {
-        length += counts(left, text[at]);
-        left = left_after(width, left, text[at]);
-        at += 1;
+    for &b in part(text, from, to) {
+        length += usize::from(keeps(left, b));
+        left = left_after(width, left, b);
     }
-    length + span(left, 2)
+    length + 2usize.saturating_sub(left)
 }
 
 // Writes a byte to a place of a buffer, if it stays, and says where the next one goes.
@@ -147,12 +130,9 @@ pub fn write_trimmed(text: &[u8], from: usize, to: usize, width: usize, out: &mu
 {
     let mut length: usize = 0;
     let mut left = width;
-    let mut at = from;
-    while at < to {
-        let b = text[at];
+    for &b in part(text, from, to) {
         length = put(left, b, out, length);
         left = left_after(width, left, b);
-        at += 1;
     }
     length = put(left, b'*', out, length);
     left = left_after(width, left, b'*');

@@ -3,7 +3,11 @@ use Prim.Native.Nat.{ℕ, zero, suc, ◌+◌, ◌-◌, ◌≤◌, ◌<◌}
 use native.Mathlib.Omega.{arith}
 use mathlib.Core.Path.{◌≡◌, refl, sym, ap, ◌∙◌}
 use mathlib.Core.Logic.{inl, inr}
+use mathlib.Core.Bool.{true, ◌&&◌}
+use lib.Dec.{eqb}
 use lib.ListN.{length, get_or}
+use borrow.Author.Tests.{eqb-true}
+use Rattle.lemmas.proofs.Cases.{both}
 use Rattle.definition.specs.Basics.{Bytes}
 use Rattle.definition.specs.Utf8.{sequence_at}
 use Rattle.definition.specs.Position.{Weight, count_chars}
@@ -157,9 +161,13 @@ module _ {s : Bytes} {from : Place} {col : ℕ} where
 
 -- ---- what the code sees
 
--- two lines with the same four numbers are the same
-pub line_is : (a b : LineStart) → a.line ≡ b.line → a.bol ≡ b.bol → a.column ≡ b.column → a.units ≡ b.units → a ≡ b
-line_is a b = go
+-- two lines of which the four numbers pass `==` are the same
+pub line_is : (a b : LineStart) → (eqb a.line b.line && (eqb a.bol b.bol && (eqb a.column b.column && eqb a.units b.units))) ≡ true → a ≡ b
+line_is a b e =
+    let p = both _ _ e in
+    let q = both _ _ p.1 in
+    let r = both _ _ q.1 in
+    go (eqb-true a.line b.line p.0) (eqb-true a.bol b.bol q.0) (eqb-true a.column b.column r.0) (eqb-true a.units b.units r.1)
   where
     go : {n m k l n' m' k' l' : ℕ} → n ≡ n' → m ≡ m' → k ≡ k' → l ≡ l'
         → ◌≡◌ {A = LineStart} (record { line = n; bol = m; column = k; units = l }) (record { line = n'; bol = m'; column = k'; units = l' })

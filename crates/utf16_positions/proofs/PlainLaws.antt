@@ -1,4 +1,5 @@
 -- Records whose positions are known without a count: they become what they become by counting. Rests on the laws of places and of records.
+use Rattle.std.specs.Prelude.{Option, None}
 use Prim.Native.Nat.{ℕ, ◌-◌, ◌≤◌}
 use native.Mathlib.Omega.{arith}
 use mathlib.Core.Path.{◌≡◌, refl, sym, ap, ap₂, ◌∙◌}
@@ -16,8 +17,6 @@ use Rattle.position.specs.AsciiRuns.{AsciiTo}
 use Rattle.utf16_positions.specs.declared.LineStart.{LineStart}
 use Rattle.utf16_positions.specs.declared.Place.{Place}
 use Rattle.utf16_positions.specs.declared.Tally.{Tally}
-use Rattle.utf16_positions.specs.declared.Begun.{Begun}
-use Rattle.utf16_positions.specs.declared.Begun.TheVariants.{Here}
 use Rattle.utf16_positions.specs.Places.{first_place, place_at, second_by, Tallied, Recounts, Recounted}
 use Rattle.utf16_positions.specs.Asks.{tally_at, pos_words, again_at, extra_again}
 use Rattle.utf16_positions.specs.Plain.{OnKnown, plain_end, PlainHere, plain_place, Ahead, Short, PlainAgain}
@@ -70,7 +69,7 @@ module _ {s : Bytes} {here next : LineStart} {t : Tally} {r : List ℕ} (h : Rec
       rw (eq-eqb line here.line e, second_by) (ap (λ (x : Place). record { line = line - 1; col = x.units }) (place_is col a b))
 
   -- so the record becomes what it becomes by counting
-  pub plainly : (begun : Begun) → begun ≡ Here → {t' : Tally} {r' : List ℕ} → PlainAgain t r t' r' → Recounted s here next begun r t' r'
+  pub plainly : (begun : Option ℕ) → begun ≡ None → {t' : Tally} {r' : List ℕ} → PlainAgain t r t' r' → Recounted s here next begun r t' r'
   plainly begun b {t'} {r'} w = all_again h begun (rw tally (tallied_at (get_or r 5 0) h.here_begins)) (rw b words)
     where
       q : Pos → Pos

@@ -1,4 +1,5 @@
 -- The positions of a record, counted again one after another in the parts of it that are lent. Rests on the laws of places and of lists.
+use Rattle.std.specs.Prelude.{Option, Some}
 use Prim.Native.Nat.{ℕ, suc, ◌+◌, ◌-◌, ◌≤◌, ◌<◌}
 use native.Mathlib.Nat.{add-zero}
 use native.Mathlib.Omega.{arith}
@@ -20,8 +21,6 @@ use Rattle.definition.specs.declared.Extra.TheVariants.{NoExtra, CharLit, Blob, 
 use Rattle.lemmas.proofs.Cases.{by_if, by_lt}
 use Rattle.utf16_positions.specs.declared.LineStart.{LineStart}
 use Rattle.utf16_positions.specs.declared.Tally.{Tally}
-use Rattle.utf16_positions.specs.declared.Begun.{Begun}
-use Rattle.utf16_positions.specs.declared.Begun.TheVariants.{Carried}
 use Rattle.utf16_positions.specs.Places.{line_at, second_by, begun_at, Begins, Tallied, Recounts, Recounted}
 use Rattle.utf16_positions.specs.Asks.{tally_at, Lines, Position, pos_at, pos_words, again, again_at, extra_again, Again}
 use Rattle.utf16_positions.proofs.PlaceLaws.{tallied_at}
@@ -50,7 +49,7 @@ module _ {s : Bytes} {here next : LineStart} {known : Tally} {r : List ℕ} (h :
   }
 
   -- where an item begins whose start is carried, nothing is counted
-  pub carried : (units : ℕ) → Again s (again (begun_at s here next (Carried units))) r known (set (set r 0 (get_or r 0 0 - 1)) 1 units)
+  pub carried : (units : ℕ) → Again s (again (begun_at s here next (Some units))) r known (set (set r 0 (get_or r 0 0 - 1)) 1 units)
   carried units = record { tallied = h.tallied; is = two_stored r (get_or r 0 0 - 1) units p.size }
 
 -- ---- a position in a record
@@ -128,7 +127,7 @@ module _ {s : Bytes} {here next : LineStart} {known : Tally} {r : List ℕ} (h :
   ready r₁ j t fits l = (record { here_begins = h.here_begins; next_begins = h.next_begins; tallied = t }, part_position r₁ j fits l)
 
   -- where all of them were, the record is that of the item with its second positions
-  pub all_again : (begun : Begun) {t : Tally} {r' : List ℕ} → Tallied s t
+  pub all_again : (begun : Option ℕ) {t : Tally} {r' : List ℕ} → Tallied s t
       → r' ≡ again_at q 4 (again_at (begun_at s here next begun) 2 (extra_again q r)) → Recounted s here next begun r t r'
   all_again begun t e =
       let q₀ = begun_at s here next begun in
@@ -181,7 +180,7 @@ module _ {s : Bytes} {here next : LineStart} {known : Tally} {r : List ℕ} (h :
     to_2 = ready r₁ 2 a.tallied in_2 (omega (arith, h.lines.start, word 2 (omega arith)))
 
     -- then the one at word 4, where it ends
-    module _ (begun : Begun) {t' : Tally} {l : List ℕ} (b : Again s (again (begun_at s here next begun)) (take 2 (drop 2 r₁)) t' l) where
+    module _ (begun : Option ℕ) {t' : Tally} {l : List ℕ} (b : Again s (again (begun_at s here next begun)) (take 2 (drop 2 r₁)) t' l) where
       abbrev q₀ : Pos → Pos
       q₀ = begun_at s here next begun
 

@@ -1,6 +1,6 @@
 -- The positions of this crate are the definition's: those of a step from the second run's state g, whose item is given at a, and after
 -- which the state is n. Rests on nothing but the two definitions.
-use Rattle.std.specs.Prelude.{if◌then◌else◌}
+use Rattle.std.specs.Prelude.{if◌then◌else◌, Option, None, Some}
 use Prim.Native.Nat.{ℕ, ◌-◌}
 use mathlib.Core.Path.{◌≡◌, refl, ap₂, fun_ext, ◌∙◌}
 use mathlib.Core.Bool.{Bool, true, false}
@@ -17,8 +17,6 @@ use Rattle.definition.specs.declared.Item.{Item}
 use Rattle.definition.specs.declared.Utf16State.{Utf16State}
 use Rattle.utf16_positions.specs.declared.LineStart.{LineStart}
 use Rattle.utf16_positions.specs.declared.Tally.{Tally}
-use Rattle.utf16_positions.specs.declared.Begun.{Begun}
-use Rattle.utf16_positions.specs.declared.Begun.TheVariants.{Here, Carried}
 use Rattle.utf16_positions.specs.Places.{first_place, place_at, line_in, second_by, begun_at, Recounted}
 
 module _ (s : Bytes) (g : Utf16State) (a n : State) where
@@ -35,17 +33,17 @@ module _ (s : Bytes) (g : Utf16State) (a n : State) where
       go false = refl
 
   -- where an item begins, outside a comment
-  pub here_is : (p : Pos) → (g.first.mode ≡ 1 → ⊥) → begun_at s (line_in g a) (line_in g n) Here p ≡ second_start utf16 s g a n p
+  pub here_is : (p : Pos) → (g.first.mode ≡ 1 → ⊥) → begun_at s (line_in g a) (line_in g n) None p ≡ second_start utf16 s g a n p
   unfolding second_start
   here_is p h = rw (ne_eqb g.first.mode 1 h, second_start) (second_is p)
 
   -- and in one
-  pub carried_is : (p : Pos) → g.first.mode ≡ 1 → begun_at s (line_in g a) (line_in g n) (Carried g.comment) p ≡ second_start utf16 s g a n p
+  pub carried_is : (p : Pos) → g.first.mode ≡ 1 → begun_at s (line_in g a) (line_in g n) (Some g.comment) p ≡ second_start utf16 s g a n p
   unfolding second_start
   carried_is p h = rw (eq-eqb g.first.mode 1 h, second_start)
 
   -- so a record counted again is the record of the item with its second positions
-  pub item_is : (begun : Begun) → ((p : Pos) → begun_at s (line_in g a) (line_in g n) begun p ≡ second_start utf16 s g a n p)
+  pub item_is : (begun : Option ℕ) → ((p : Pos) → begun_at s (line_in g a) (line_in g n) begun p ≡ second_start utf16 s g a n p)
       → {r r' : List ℕ} {t : Tally} → Recounted s (line_in g a) (line_in g n) begun r t r'
       → (x : Item) (used : ℕ) → r ≡ words x used → r' ≡ words (second_item (second_start utf16 s g a n x.sp) (second utf16 s g a n) x) used
   item_is begun h c x used e = c.is x used e ∙ ap₂ (λ (p : Pos) (q : Pos → Pos). words (second_item p q x) used) (h x.sp) (fun_ext second_is)

@@ -1,5 +1,5 @@
 -- Places of a line with both their columns, and the positions of a record counted again. s is the text.
-use Rattle.std.specs.Prelude.{ℕ, ◌+◌, ◌-◌, ◌≤◌, ◌<◌, ◌≡◌, List, eqb, length, get_or, if◌then◌else◌}
+use Rattle.std.specs.Prelude.{ℕ, ◌+◌, ◌-◌, ◌≤◌, ◌<◌, ◌≡◌, List, eqb, length, get_or, if◌then◌else◌, Option, None, Some}
 use Rattle.definition.specs.Basics.{Bytes}
 use Rattle.definition.specs.Position.{Weight, count_chars}
 use Rattle.definition.specs.Item.{record_size, words}
@@ -11,8 +11,6 @@ use Rattle.definition.specs.declared.Utf16State.{Utf16State}
 use Rattle.utf16_positions.specs.declared.LineStart.{LineStart}
 use Rattle.utf16_positions.specs.declared.Place.{Place}
 use Rattle.utf16_positions.specs.declared.Tally.{Tally}
-use Rattle.utf16_positions.specs.declared.Begun.{Begun}
-use Rattle.utf16_positions.specs.declared.Begun.TheVariants.{Here, Carried}
 
 -- ---- places
 
@@ -57,10 +55,10 @@ line_at here next n = if eqb n here.line then here else next
 unfoldable pub second_by : Bytes → LineStart → LineStart → Pos → Pos
 second_by s here next p = record { line = p.line - 1; col = (place_at utf16 s (first_place (line_at here next p.line)) p.col).units }
 
--- the same for where an item begins
-abbrev pub begun_at : Bytes → LineStart → LineStart → Begun → Pos → Pos
-begun_at s here next Here p = second_by s here next p
-begun_at s here next (Carried units) p = record { line = p.line - 1; col = units }
+-- the same for where an item begins: for a later piece of a comment in the column `carried`, the second one of the comment's start
+abbrev pub begun_at : Bytes → LineStart → LineStart → Option ℕ → Pos → Pos
+begun_at s here next None p = second_by s here next p
+begun_at s here next (Some units) p = record { line = p.line - 1; col = units }
 
 -- ---- records
 
@@ -79,6 +77,6 @@ pub record Recounts (s : Bytes) (here next : LineStart) (t : Tally) (r : List �
   pub lines : LinesFromOne r
 
 -- what it gives: the record of an item is that of the item with its second positions, and the place that is known then is one of its line
-pub record Recounted (s : Bytes) (here next : LineStart) (begun : Begun) (r : List ℕ) (t : Tally) (r' : List ℕ) : Type 0 where
+pub record Recounted (s : Bytes) (here next : LineStart) (carried : Option ℕ) (r : List ℕ) (t : Tally) (r' : List ℕ) : Type 0 where
   pub tallied : Tallied s t
-  pub is : (x : Item) (used : ℕ) → r ≡ words x used → r' ≡ words (second_item (begun_at s here next begun x.sp) (second_by s here next) x) used
+  pub is : (x : Item) (used : ℕ) → r ≡ words x used → r' ≡ words (second_item (begun_at s here next carried x.sp) (second_by s here next) x) used

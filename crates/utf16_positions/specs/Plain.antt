@@ -1,5 +1,5 @@
 -- Records whose positions are known without a count. s is the text, t the line and its place that are known, r the record.
-use Rattle.std.specs.Prelude.{ℕ, ◌+◌, ◌-◌, ◌≤◌, ◌≡◌, List, [], ◌∷◌, length, get_or}
+use Rattle.std.specs.Prelude.{ℕ, ◌+◌, ◌-◌, ◌≤◌, ◌≡◌, List, [], ◌∷◌, length, get_or, Option, None}
 use Rattle.std.proofs.lemmas.List.Edits.{sets}
 use Rattle.definition.specs.Basics.{Bytes}
 use Rattle.definition.specs.Item.{record_size}
@@ -7,8 +7,6 @@ use Rattle.position.specs.AsciiRuns.{Ascii}
 use Rattle.utf16_positions.specs.declared.LineStart.{LineStart}
 use Rattle.utf16_positions.specs.declared.Place.{Place}
 use Rattle.utf16_positions.specs.declared.Tally.{Tally}
-use Rattle.utf16_positions.specs.declared.Begun.{Begun}
-use Rattle.utf16_positions.specs.declared.Begun.TheVariants.{Here}
 
 -- a record has no positions but its start and its end, one after the other on the line whose place is known, and not before it
 pub record OnKnown (here : LineStart) (t : Tally) (r : List ℕ) : Type 0 where
@@ -30,8 +28,8 @@ pub record PlainHere (s : Bytes) (here : LineStart) (t : Tally) (r : List ℕ) :
   pub within : plain_end t r ≤ length s
 
 -- such a record of an item that begins at a place of a line
-pub record Plain (s : Bytes) (here : LineStart) (begun : Begun) (t : Tally) (r : List ℕ) : Type 0 where
-  pub here_begun : begun ≡ Here
+pub record Plain (s : Bytes) (here : LineStart) (carried : Option ℕ) (t : Tally) (r : List ℕ) : Type 0 where
+  pub not_carried : carried ≡ None
   pub plain : PlainHere s here t r
 
 -- the place at a column, from a place before it with nothing but ASCII between

@@ -19,7 +19,7 @@ use crate::places::tally_at;
 use crate::plain::{is_plain, recount_plain};
 
 // A line: its number, its first byte, and the column there in characters and in units.
-#[derive(Clone, Copy)]
+#[derive(Clone, Copy, PartialEq)]
 pub struct LineStart {
     pub line: u32,
     pub bol: u32,
@@ -40,13 +40,6 @@ pub struct Place {
 pub struct Tally {
     pub start: LineStart,
     pub place: Place,
-}
-
-// Where an item begins: at a place of a line; or, as a later piece of a comment, where the comment does, whose column in units is given.
-#[derive(Clone, Copy)]
-pub enum Begun {
-    Here,
-    Carried(u32),
 }
 
 // The line of a position, of the two that an item's positions are on.
@@ -77,21 +70,22 @@ fn recount_position(
     tally
 }
 
-// Counts again where an item begins.
+// Counts again where an item begins. A later piece of a comment begins where its comment does, whose second column is `carried` from run
+// to run; any other item begins at a place of one of the two lines.
 fn recount_start(
     text: &[u8],
     here: LineStart,
     next: LineStart,
-    begun: Begun,
+    carried: Option<u32>,
     known: Tally,
     out: &mut [u32],
 ) -> Tally
     requires { Lines text.now here next known × Position out.old }
-    ensures { Again text.now (again (begun_at text.now here next begun)) out.old result out.new }
+    ensures { Again text.now (again (begun_at text.now here next carried)) out.old result out.new }
 {
-    match begun {
-        Begun::Here => recount_position(text, here, next, known, out),
-        Begun::Carried(units) => {
+    match carried {
+        None => recount_position(text, here, next, known, out),
+        Some(units) => {
             out[0] -= 1;
             out[1] = units;
             known
@@ -123,15 +117,15 @@ fn recount_places(
     text: &[u8],
     here: LineStart,
     next: LineStart,
-    begun: Begun,
+    carried: Option<u32>,
     known: Tally,
     out: &mut [u32],
 ) -> Tally
     requires { Recounts text.now here next known out.old }
-    ensures { Recounted text.now here next begun out.old result out.new }
+    ensures { Recounted text.now here next carried out.old result out.new }
 {
     let extra = recount_extra(text, here, next, known, out);
-    let start = recount_start(text, here, next, begun, extra, &mut out[2..4]);
+    let start = recount_start(text, here, next, carried, extra, &mut out[2..4]);
     recount_position(text, here, next, start, &mut out[4..6])
 }
 
@@ -140,15 +134,15 @@ pub fn recount(
     text: &[u8],
     here: LineStart,
     next: LineStart,
-    begun: Begun,
+    carried: Option<u32>,
     known: Tally,
     out: &mut [u32],
 ) -> Tally
     requires { Recounts text.now here next known out.old }
-    ensures { Recounted text.now here next begun out.old result out.new }
+    ensures { Recounted text.now here next carried out.old result out.new }
 {
-    if is_plain(text, here, begun, known, out) {
+    if is_plain(text, here, carried, known, out) {
         return recount_plain(known, out);
     }
-    recount_places(text, here, next, begun, known, out)
+    recount_places(text, here, next, carried, known, out)
 }

@@ -1,5 +1,5 @@
 // The place of a line at a column in characters, with its column in units.
-ghost use Rattle.std.specs.Prelude.{true, ◌≡◌};
+ghost use Rattle.std.specs.Prelude.{◌≡◌};
 ghost use Rattle.definition.specs.Utf16.{utf16};
 ghost use Rattle.utf16_positions.specs.Places.{Begins, Tallied, place_at};
 ghost use Rattle.utf16_positions.specs.Asks.{size_at, OnFrom, From, tally_at};
@@ -11,7 +11,7 @@ use utf8::sequence_at;
 // The last code point that UTF-16 writes in one unit.
 const LAST_OF_ONE_UNIT: u32 = 0xFFFF;
 
-// A character's bytes and units; both are 0 where none stands.
+// A character's bytes and units; both are 0 where none stands, which adds nothing: an Option would be taken apart only to add 0.
 #[derive(Clone, Copy)]
 pub struct CharSize {
     pub bytes: usize,
@@ -53,35 +53,17 @@ fn place_on(text: &[u8], from: Place, col: u32) -> Place
     ensures { result ≡ place_at utf16 text.now from col }
 {
     let mut off = from.off as usize;
-    let mut at = from.col;
     let mut units = from.units;
-    while at < col {
+    for _ in from.col..col {
         let size = size_at(text, off);
         off += size.bytes;
         units += size.units;
-        at += 1;
     }
     Place {
         off: off as u32,
-        col: at,
-        units: units,
+        col: from.col.max(col),
+        units,
     }
-}
-
-// Whether two lines are the same.
-pub fn same_line(a: LineStart, b: LineStart) -> bool
-    ensures { result ≡ true → a ≡ b }
-{
-    if a.line != b.line {
-        return false;
-    }
-    if a.bol != b.bol {
-        return false;
-    }
-    if a.column != b.column {
-        return false;
-    }
-    a.units == b.units
 }
 
 // Where the count to a column begins: at the place that is known where it is one of the line and not past the column, else at the line's
@@ -91,7 +73,7 @@ fn count_from(known: Tally, line: LineStart, col: u32) -> Place
 {
     let start = known.start;
     let place = known.place;
-    if same_line(start, line) {
+    if start == line {
         if place.col <= col {
             return place;
         }
@@ -110,8 +92,5 @@ pub fn tally_at(text: &[u8], known: Tally, line: LineStart, col: u32) -> Tally
 {
     let from = count_from(known, line, col);
     let place = place_on(text, from, col);
-    Tally {
-        start: line,
-        place: place,
-    }
+    Tally { start: line, place }
 }

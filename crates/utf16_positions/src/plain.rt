@@ -6,8 +6,7 @@ ghost use Rattle.definition.specs.Item.{record_size};
 ghost use Rattle.utf16_positions.specs.Plain.{OnKnown, PlainHere, Plain, plain_place, Ahead, Short, PlainAgain};
 ghost use Rattle.utf16_positions.specs.Places.{Tallied};
 
-use crate::places::same_line;
-use crate::{Begun, LineStart, Place, Tally};
+use crate::{LineStart, Place, Tally};
 use position::ascii_runs::ascii_from;
 
 // Whether a record has no positions but its start and its end, one after the other on the line whose place is known, and not before it.
@@ -16,7 +15,7 @@ fn on_known_line(here: LineStart, known: Tally, out: &[u32]) -> bool
     ensures { result ≡ true → OnKnown here known out.now }
 {
     let start = known.start;
-    if !same_line(start, here) {
+    if start != here {
         return false;
     }
     if 1 < out[9] {
@@ -48,13 +47,19 @@ fn plain_here(text: &[u8], here: LineStart, known: Tally, out: &[u32]) -> bool
 }
 
 // Whether nothing is to be counted for a record.
-pub fn is_plain(text: &[u8], here: LineStart, begun: Begun, known: Tally, out: &[u32]) -> bool
+pub fn is_plain(
+    text: &[u8],
+    here: LineStart,
+    carried: Option<u32>,
+    known: Tally,
+    out: &[u32],
+) -> bool
     requires { Tallied text.now known × (length out.now ≡ record_size) }
-    ensures { result ≡ true → Plain text.now here begun known out.now }
+    ensures { result ≡ true → Plain text.now here carried known out.now }
 {
-    match begun {
-        Begun::Here => plain_here(text, here, known, out),
-        Begun::Carried(_) => false,
+    match carried {
+        None => plain_here(text, here, known, out),
+        Some(_) => false,
     }
 }
 
@@ -66,7 +71,7 @@ fn plain_place(from: Place, col: u32) -> Place
     let n = col - from.col;
     Place {
         off: from.off + n,
-        col: col,
+        col,
         units: from.units + n,
     }
 }

@@ -1,5 +1,5 @@
 -- The second columns of lines and of comments, and where an item begins, as the code tells them. Rests on nothing but the definition.
-use Rattle.std.specs.Prelude.{if◌then◌else◌}
+use Rattle.std.specs.Prelude.{if◌then◌else◌, None, Some}
 use Prim.Native.Nat.{ℕ}
 use mathlib.Core.Path.{◌≡◌}
 use borrow.Author.Tests.{eq-eqb, ne_eqb}
@@ -7,7 +7,6 @@ use lib.Dec.{eqb}
 use Rattle.definition.specs.declared.State.{State}
 use Rattle.definition.specs.declared.Utf16State.{Utf16State}
 use Rattle.utf16_positions.specs.Places.{line_of, line_in}
-use Rattle.utf16_positions.specs.declared.Begun.TheVariants.{Here, Carried}
 use Rattle.utf16_turn.specs.Turning.{begun_in}
 
 module _ (g : Utf16State) where
@@ -19,11 +18,11 @@ module _ (g : Utf16State) where
   line_later a n = rw (ne_eqb a.line g.first.line n)
 
   -- where an item begins
-  pub begun_carried : g.first.mode ≡ 1 → Carried g.comment ≡ begun_in g
+  pub begun_carried : g.first.mode ≡ 1 → Some g.comment ≡ begun_in g
   unfolding begun_in
   begun_carried m = rw (begun_in, eq-eqb g.first.mode 1 m)
 
-  pub begun_here : (g.first.mode ≡ 1 → ⊥) → Here ≡ begun_in g
+  pub begun_here : (g.first.mode ≡ 1 → ⊥) → None ≡ begun_in g
   unfolding begun_in
   begun_here n = rw (begun_in, ne_eqb g.first.mode 1 n)
 

@@ -8,12 +8,12 @@ use lib.Dec.{ltb, eqb}
 use lib.ListN.{length}
 use native.Mathlib.Omega.{arith}
 use borrow.Author.Tests.{eqb-false, ltb-false}
+use Rattle.definition.specs.Answers.{RunAnswer}
 use Rattle.definition.specs.Basics.{Bytes, Turn, again, done}
 use Rattle.definition.specs.Item.{Step, record_size}
 use Rattle.definition.specs.Token.{step}
 use Rattle.definition.specs.Run.{Outcome, Writing, stopped, written, run_turn}
 use Rattle.definition.specs.declared.State.{State}
-use Rattle.definition.specs.declared.RunAnswer.{RunAnswer}
 use Rattle.lemmas.proofs.Cases.{by_test}
 
 -- what a turn answers, or where it goes on; `else` is for the other case
@@ -57,7 +57,7 @@ module _ (s name f : Bytes) (st : State) (count used : ℕ) (ps : Bytes) where
         record {
           records = sym (ap (λ (x : Outcome). x.1) is);
           payload = sym (ap (λ (x : Outcome). x.2) is);
-          alike = q ∙ ap (λ (r : RunAnswer). done (r, rs', ps)) (ap (λ (x : Outcome). x.0) is);
+          alike = q ∙ ap (λ (r : RunAnswer State). done (r, rs', ps)) (ap (λ (x : Outcome). x.0) is);
         }
 
     pub shadow_stops : (o : Outcome) → run_turn s name f (with_records rs) ≡ done o → StopsAlike o

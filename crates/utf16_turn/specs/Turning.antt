@@ -1,6 +1,7 @@
 -- Where the second run stands between two items, and what one turn of it does to the buffers. s is the text, name the file's name, f the
 -- class file; rs and ps are the buffers as they are then.
-use Rattle.std.specs.Prelude.{ℕ, ◌+◌, ◌*◌, ◌≤◌, ◌≡◌, true, false, List, eqb, length, get_or, if◌then◌else◌}
+use Rattle.std.specs.Prelude.{ℕ, ◌+◌, ◌*◌, ◌≤◌, ◌≡◌, true, false, List, eqb, length, get_or, if◌then◌else◌, Option, None, Some}
+use Rattle.definition.specs.Answers.{stop_number}
 use Rattle.definition.specs.Basics.{Bytes, again, done}
 use Rattle.definition.specs.Item.{record_size, words}
 use Rattle.definition.specs.Token.{step}
@@ -12,19 +13,17 @@ use Rattle.reader.specs.declared.Cursor.{Cursor}
 use Rattle.reader.specs.Described.{KnownAt}
 use Rattle.laws_utf16.specs.Accepted.{Utf16Stands}
 use Rattle.utf16_positions.specs.Places.{first_place, line_of, line_in, Tallied, Recounts, Recounted}
-use Rattle.utf16_positions.specs.declared.Begun.{Begun}
-use Rattle.utf16_positions.specs.declared.Begun.TheVariants.{Here, Carried}
 use Rattle.run_turn.specs.Running.{writing, answered, Between, StandsAhead}
+use Rattle.run_turn.specs.declared.TurnResult.{TurnResult}
+use Rattle.run_turn.specs.declared.TurnResult.TheVariants.{Stop, Wrote}
 use Rattle.utf16_turn.specs.declared.Ahead.{Ahead}
 use Rattle.utf16_turn.specs.declared.Utf16Cursor.{Utf16Cursor}
-use Rattle.utf16_turn.specs.declared.Utf16TurnResult.{Utf16TurnResult}
-use Rattle.utf16_turn.specs.declared.Utf16TurnResult.TheVariants.{Stop, Wrote}
 
 -- ---- a record's positions counted again
 
 -- where the item of a step from g begins
-unfoldable pub begun_in : Utf16State → Begun
-begun_in g = elim (eqb g.first.mode 1) [ true ↦ Carried g.comment | false ↦ Here ]
+unfoldable pub begun_in : Utf16State → Option ℕ
+begun_in g = elim (eqb g.first.mode 1) [ true ↦ Some g.comment | false ↦ None ]
 
 -- what counting asks for, of an item that is given at `here` and after which the first run stands at `next`
 abbrev pub Recountable : Bytes → Utf16Cursor → State → Cursor → List ℕ → Type 0
@@ -76,7 +75,7 @@ pub record Utf16Wrote (s name f : Bytes) (at : Utf16Cursor) (count used : ℕ) (
   pub tallied : Tallied s next.tally
 
 -- what a turn did: it stopped, as the first run's turn does; or it wrote an item
-abbrev pub Utf16Ran : Bytes → Bytes → Bytes → Utf16Cursor → ℕ → ℕ → List ℕ → Bytes → Utf16TurnResult → List ℕ → Bytes → Type 0
+abbrev pub Utf16Ran : Bytes → Bytes → Bytes → Utf16Cursor → ℕ → ℕ → List ℕ → Bytes → TurnResult Utf16Cursor → List ℕ → Bytes → Type 0
 Utf16Ran s name f at count used rs ps (Stop n) rs' ps' =
-    run_turn s name f (writing (cursor_of at) count used rs ps) ≡ done (answered n count at.state.first, rs', ps')
+    run_turn s name f (writing (cursor_of at) count used rs ps) ≡ done (answered (stop_number n) count at.state.first, rs', ps')
 Utf16Ran s name f at count used rs ps (Wrote next used') rs' ps' = Utf16Wrote s name f at count used rs ps next used' rs' ps'

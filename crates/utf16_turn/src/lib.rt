@@ -18,7 +18,7 @@ use lookahead::NextItem;
 use position::Cache;
 use reader::Cursor;
 use run_turn::TurnResult;
-use utf16_positions::{Begun, LineStart, Place, Tally, recount};
+use utf16_positions::{LineStart, Place, Tally, recount};
 
 // Where the second run stands: its state, a column that is known there, and a place of the line with both its columns.
 #[derive(Clone, Copy)]
@@ -26,13 +26,6 @@ pub struct Utf16Cursor {
     pub state: Utf16State,
     pub known: Cache,
     pub tally: Tally,
-}
-
-// What a turn did, as in the first run.
-#[derive(Clone, Copy)]
-pub enum Utf16TurnResult {
-    Stop(u32),
-    Wrote { next: Utf16Cursor, used: usize },
 }
 
 // What stands ahead of a run between two items: where it is given, after white space, and what is known of it before it is read.
@@ -62,14 +55,11 @@ pub fn cursor_at(g: Utf16State) -> Utf16Cursor
         col: first.column,
         units: g.column,
     };
-    let tally = Tally {
-        start: start,
-        place: place,
-    };
+    let tally = Tally { start, place };
     Utf16Cursor {
         state: g,
-        known: known,
-        tally: tally,
+        known,
+        tally,
     }
 }
 
@@ -80,10 +70,7 @@ fn first_cursor(at: Utf16Cursor) -> Cursor
     let g = at.state;
     let st = g.first;
     let known = at.known;
-    Cursor {
-        st: st,
-        known: known,
-    }
+    Cursor { st, known }
 }
 
 // The line that a state is on to which the next step from g comes: its start has g's second column on g's line, and 0 on a later one.
@@ -108,14 +95,14 @@ fn line_in(g: Utf16State, a: State) -> LineStart
 }
 
 // Where the item of a step from g begins.
-fn begun_in(g: Utf16State) -> Begun
+fn begun_in(g: Utf16State) -> Option<u32>
     ensures { result ≡ begun_in g }
 {
     let first = g.first;
     if first.mode == 1 {
-        return Begun::Carried(g.comment);
+        return Some(g.comment);
     }
-    Begun::Here
+    None
 }
 
 // The second column of the comment's start in the state `next`, where its last piece begins at the column `start`.
@@ -151,9 +138,9 @@ fn recount_item(
         comment: comment_in(st, out[3]),
     };
     Utf16Cursor {
-        state: state,
-        known: known,
-        tally: tally,
+        state,
+        known,
+        tally,
     }
 }
 
@@ -187,10 +174,7 @@ fn look_ahead(
     );
     let here = tokens.here;
     let item = tokens.ahead;
-    Ahead {
-        here: here,
-        item: item,
-    }
+    Ahead { here, item }
 }
 
 // One turn.
@@ -205,7 +189,7 @@ pub fn turn(
     used: usize,
     records: &mut [u32],
     payload: &mut [u8],
-) -> Utf16TurnResult
+) -> TurnResult<Utf16Cursor>
     requires { Utf16Between text.now name.now classes.now at count used records.old payload.old × Lent classes.now ops.now symbols.now }
     ensures { Utf16Ran text.now name.now classes.now at count used records.old payload.old result records.new payload.new }
 {
@@ -218,12 +202,12 @@ pub fn turn(
     match run_turn::turn(
         text, name, classes, from, here, item, count, used, records, payload,
     ) {
-        TurnResult::Stop(stop) => Utf16TurnResult::Stop(stop),
+        TurnResult::Stop(stop) => TurnResult::Stop(stop),
         TurnResult::Wrote { next, used: filled } => {
             let first = RECORD * count;
             let given = here.st;
             let on = recount_item(text, at, given, next, &mut records[first..first + RECORD]);
-            Utf16TurnResult::Wrote {
+            TurnResult::Wrote {
                 next: on,
                 used: filled,
             }

@@ -1,5 +1,6 @@
 -- The laws of a text, for every layer above to cite: decoding against encoding, legal texts and the first bad offset, the characters
 -- after an offset, boundaries, and runs. Rests on `definition`, on `lemmas` and on the files beside this one, which prove them.
+use Rattle.std.specs.Prelude.{Some, None}
 use Prim.Native.Nat.{ℕ, ◌+◌, ◌≤◌, ◌<◌}
 use mathlib.Core.Path.{◌≡◌, refl, sym, ap, subst, ◌∙◌}
 use mathlib.Core.Bool.{Bool, true, false}
@@ -14,8 +15,6 @@ use Rattle.definition.specs.Text.{get, next, star, first_bad}
 use Rattle.definition.specs.State.{at_character}
 use Rattle.definition.specs.declared.Sequence.{Sequence}
 use Rattle.definition.specs.declared.Sequence.TheVariants.{Char, Bad, End}
-use Rattle.definition.specs.declared.Letter.TheVariants.{Code, Past}
-use Rattle.definition.specs.declared.Match.TheVariants.{To, Nothing}
 use Rattle.lemmas.proofs.Cases.{by_order}
 use Rattle.utf8.specs.Chars.{CharAt, CharTo, Rest, Run, Next, chars_from, first_letter, take_while}
 use Rattle.utf8.proofs.Reading.{read_end, get_of, next_of, NoChar, with_none}
@@ -61,19 +60,19 @@ pub get_first : (s : Bytes) (i : ℕ) → get s i ≡ first_letter (chars_from s
 get_first s i =
     by_char s i
     (λ c w e. get_of s i e ∙ ap first_letter (sym (chars_on s i c w e)))
-    (λ h. get_of s i refl ∙ with_none (sequence_at s i) i (λ c j. Code c) Past h ∙ ap first_letter (sym (chars_none s i h)))
+    (λ h. get_of s i refl ∙ with_none (sequence_at s i) i (λ c j. Some c) None h ∙ ap first_letter (sym (chars_none s i h)))
 
 -- Where a character stands, `get` gives it, and `next` goes past it.
-pub char_reads : {s : Bytes} {i c w : ℕ} → CharAt s i c w → (get s i ≡ Code c) × (next s i ≡ To (i + w))
+pub char_reads : {s : Bytes} {i c w : ℕ} → CharAt s i c w → (get s i ≡ Some c) × (next s i ≡ Some (i + w))
 char_reads {s} {i} a = (get_of s i (read_char a), next_of s i (read_char a))
 
 -- `next` goes nowhere else, and the characters there are those after the first.
-pub next_others : (s : Bytes) (i j : ℕ) → next s i ≡ To j → Next s i j
+pub next_others : (s : Bytes) (i j : ℕ) → next s i ≡ Some j → Next s i j
 next_others s i j n = by_char s i some none
   where
     some : (c w : ℕ) → sequence_at s i ≡ Char c w → Next s i j
     some c w e =
-        let q : To (i + w) ≡ To j = sym (next_of s i e) ∙ n in
+        let q : Some (i + w) ≡ Some j = sym (next_of s i e) ∙ n in
         let same : i + w ≡ j = cc in
         record {
           code = c;
@@ -86,17 +85,17 @@ next_others s i j n = by_char s i some none
 
     none : NoChar (sequence_at s i) → Next s i j
     none h =
-        let q : Nothing ≡ To j = sym (next_of s i refl ∙ with_none (sequence_at s i) i (λ c k. To k) Nothing h) ∙ n in
+        let q : None ≡ Some j = sym (next_of s i refl ∙ with_none (sequence_at s i) i (λ c k. Some k) None h) ∙ n in
         let z : ◌≡◌ {A = ℕ} 0 1 = cc in
         absurd (omega arith)
 
 -- Where it goes nowhere there are none.
-pub next_nothing : (s : Bytes) (i : ℕ) → next s i ≡ Nothing → chars_from s i ≡ []
+pub next_nothing : (s : Bytes) (i : ℕ) → next s i ≡ None → chars_from s i ≡ []
 next_nothing s i n = by_char s i some (chars_none s i)
   where
     some : (c w : ℕ) → sequence_at s i ≡ Char c w → chars_from s i ≡ []
     some c w e =
-        let q : To (i + w) ≡ Nothing = sym (next_of s i e) ∙ n in
+        let q : Some (i + w) ≡ None = sym (next_of s i e) ∙ n in
         let z : ◌≡◌ {A = ℕ} 0 1 = cc in
         absurd (omega arith)
 

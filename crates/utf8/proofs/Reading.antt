@@ -1,4 +1,5 @@
 -- What `sequence_at`, `byte`, `get` and `next` are, an equation for each arm of their definitions. Rests on `definition` and on `lemmas`.
+use Rattle.std.specs.Prelude.{Some, None}
 use Prim.Native.Nat.{ℕ, ◌+◌, ◌≤◌, ◌<◌}
 use mathlib.Core.Path.{◌≡◌, refl, sym, ap, ◌∙◌}
 use mathlib.Core.List.{◌∷◌}
@@ -11,9 +12,6 @@ use Rattle.definition.specs.Utf8.{sequence, sequence_at}
 use Rattle.definition.specs.Text.{with_char, get, next, byte}
 use Rattle.definition.specs.declared.Sequence.{Sequence}
 use Rattle.definition.specs.declared.Sequence.TheVariants.{Char, Bad, End}
-use Rattle.definition.specs.declared.Letter.TheVariants.{Code, Past}
-use Rattle.definition.specs.declared.Octet.TheVariants.{Byte, Past as No_byte}
-use Rattle.definition.specs.declared.Match.TheVariants.{To, Nothing}
 use Rattle.lemmas.proofs.Cases.{tests, by_order}
 
 -- ---- what stands at an offset
@@ -49,24 +47,24 @@ read_shift s i = by_order i (length s) inside past
 -- ---- the byte, the character and the offset after it
 
 -- Within the text there is a byte.
-pub byte_within : (s : Bytes) (i : ℕ) → i < length s → byte s i ≡ Byte (get_or s i 0)
+pub byte_within : (s : Bytes) (i : ℕ) → i < length s → byte s i ≡ Some (get_or s i 0)
 unfolding byte
 byte_within s i h = simp (byte, tests)
 
 -- Past the end there is none.
-pub byte_end : (s : Bytes) (i : ℕ) → length s ≤ i → byte s i ≡ No_byte
+pub byte_end : (s : Bytes) (i : ℕ) → length s ≤ i → byte s i ≡ None
 unfolding byte
 byte_end s i h = simp (byte, tests)
 
 -- `get` sees nothing but what stands at the offset.
-pub get_of : (s : Bytes) (i : ℕ) {t : Sequence} → sequence_at s i ≡ t → get s i ≡ with_char t i (λ c j. Code c) Past
+pub get_of : (s : Bytes) (i : ℕ) {t : Sequence} → sequence_at s i ≡ t → get s i ≡ with_char t i (λ c j. Some c) None
 unfolding get
-get_of s i e = ap (λ (t : Sequence). with_char t i (λ c j. Code c) Past) e
+get_of s i e = ap (λ (t : Sequence). with_char t i (λ c j. Some c) None) e
 
 -- `next` sees nothing else either.
-pub next_of : (s : Bytes) (i : ℕ) {t : Sequence} → sequence_at s i ≡ t → next s i ≡ with_char t i (λ c j. To j) Nothing
+pub next_of : (s : Bytes) (i : ℕ) {t : Sequence} → sequence_at s i ≡ t → next s i ≡ with_char t i (λ c j. Some j) None
 unfolding next
-next_of s i e = ap (λ (t : Sequence). with_char t i (λ c j. To j) Nothing) e
+next_of s i e = ap (λ (t : Sequence). with_char t i (λ c j. Some j) None) e
 
 -- ---- where no character stands
 

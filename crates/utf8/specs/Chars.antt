@@ -1,11 +1,9 @@
 -- What the laws of a text speak of: a character at an offset, the characters from an offset on, and the longest run of them that
 -- passes a test.
-use Rattle.std.specs.Prelude.{ℕ, zero, suc, ◌+◌, ◌≤◌, ◌≡◌, Bool, true, false, List, [], ◌∷◌, ◌++◌, length, drop}
+use Rattle.std.specs.Prelude.{ℕ, zero, suc, ◌+◌, ◌≤◌, ◌≡◌, Bool, true, false, List, [], ◌∷◌, ◌++◌, length, drop, Option, Some, None}
 use Rattle.definition.specs.Basics.{Bytes, fuel}
 use Rattle.definition.specs.Utf8.{encode, encode_all, Scalar, Scalars, sequence_at}
 use Rattle.definition.specs.Text.{with_char, get}
-use Rattle.definition.specs.declared.Letter.{Letter}
-use Rattle.definition.specs.declared.Letter.TheVariants.{Code, Past}
 
 -- A character stands at i: the scalar value c, whose encoding is the w bytes from i on.
 pub record CharAt (s : Bytes) (i c w : ℕ) : Type 0 where
@@ -53,13 +51,13 @@ pub record Next (s : Bytes) (i j : ℕ) : Type 0 where
   pub width : ℕ
   pub stands : CharAt s i code width
   pub ends : j ≡ i + width
-  pub read : get s i ≡ Code code
+  pub read : get s i ≡ Some code
   pub others : chars_from s i ≡ code ∷ chars_from s j
 
 -- the first character, or that there is none
-abbrev pub first_letter : List ℕ → Letter
-first_letter [] = Past
-first_letter (c ∷ cs) = Code c
+abbrev pub first_letter : List ℕ → Option ℕ
+first_letter [] = None
+first_letter (c ∷ cs) = Some c
 
 -- the longest prefix whose every element passes the test
 unfoldable pub take_while : (ℕ → Bool) → List ℕ → List ℕ

@@ -6,23 +6,21 @@ ghost use Rattle.std.specs.Prelude.{◌≡◌};
 ghost use Rattle.definition.specs.Text.{byte, first_bad};
 
 use crate::sequence_at;
-use definition::{Octet, Sequence};
+use definition::Sequence;
 
 // A byte below it is ASCII.
 const ASCII_LIMIT: u8 = 0x80;
 
 // The byte at i.
-pub fn byte(text: &[u8], i: usize) -> Octet
+#[tactic(auto, unfolding(definition::specs::Text::byte), using(lemmas::proofs::Cases::tests))]
+pub fn byte(text: &[u8], i: usize) -> Option<u8>
     ensures { result ≡ byte text.now i }
 {
-    if i < text.len() {
-        return Octet::Byte(text[i]);
-    }
-    Octet::Past
+    text.get(i).copied()
 }
 
 // The first offset, from 0 by legal sequences, where none starts; the length where there is none. A byte below 80 is a
-// character by itself, so a run of them is passed without the decoder.
+// character by itself, so a run of them is passed without the decoder. (The offset goes on by a character's width: no `for` does.)
 pub fn first_bad(text: &[u8]) -> usize
     ensures { result ≡ first_bad text.now }
 {
@@ -32,17 +30,10 @@ pub fn first_bad(text: &[u8]) -> usize
             i += 1;
             continue;
         }
-        match sequence_at(text, i) {
-            Sequence::Char(_, width) => {
-                i += width;
-            }
-            Sequence::Bad => {
-                return i;
-            }
-            Sequence::End => {
-                return i;
-            }
-        }
+        let Sequence::Char(_, width) = sequence_at(text, i) else {
+            return i;
+        };
+        i += width;
     }
     i
 }

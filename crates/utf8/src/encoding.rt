@@ -8,19 +8,16 @@ ghost use Rattle.lemmas.specs.Over.{Wrote};
 ghost use Rattle.utf8.specs.Asks.{Encodes};
 
 // How many bytes a character has in UTF-8.
+#[tactic(auto, unfolding(definition::specs::Utf8::encode), using(lemmas::proofs::Cases::all_tests))]
 pub fn encode_length(c: u32) -> usize
     ensures { result ≡ length (encode c) }
 {
-    if c <= 0x7F {
-        return 1;
+    match c {
+        0..=0x7F => 1,
+        0x80..=0x7FF => 2,
+        0x800..=0xFFFF => 3,
+        _ => 4,
     }
-    if c <= 0x7FF {
-        return 2;
-    }
-    if c <= 0xFFFF {
-        return 3;
-    }
-    4
 }
 
 // Writes the bytes of a character to the front of the buffer, and says how many they are.

@@ -12,24 +12,20 @@ ghost use Rattle.definition.specs.Utf8.{tail_bits, two, three, three_bytes, four
 
 use definition::Sequence;
 
-// The six bits of a byte 80 to BF at i, which continues a sequence; 64 for any other, and past the end.
+// The six bits of a byte 80 to BF at i, which continues a sequence; 64 for any other, and past the end, as the definition's
+// `tail_bits` has it.
+#[tactic(auto, unfolding(definition::specs::Utf8::tail_bits), using(lemmas::proofs::Cases::tests))]
 fn tail_bits_at(text: &[u8], i: usize) -> u32
     ensures { result ≡ tail_bits (get_or text.now i 0) }
 {
-    if text.len() <= i {
-        return 64;
+    match text.get(i) {
+        Some(byte @ 0x80..=0xBF) => u32::from(byte - 0x80),
+        _ => 64,
     }
-    let byte = text[i];
-    if byte < 0x80 {
-        return 64;
-    }
-    if byte < 0xC0 {
-        return (byte - 0x80) as u32;
-    }
-    64
 }
 
 // A sequence of two bytes, from the bits of each.
+#[tactic(auto, unfolding(definition::specs::Utf8::two), using(lemmas::proofs::Cases::tests))]
 fn two(x: u32, y: u32) -> Sequence
     requires { x < 32 }
     ensures { result ≡ two x y }
@@ -41,66 +37,53 @@ fn two(x: u32, y: u32) -> Sequence
 }
 
 // What three bytes with the bits of c are: no code point that fewer bytes have, and no surrogate.
+#[tactic(auto, unfolding(definition::specs::Utf8::three_bytes), using(lemmas::proofs::Cases::tests))]
 fn three_bytes(c: u32) -> Sequence
     ensures { result ≡ three_bytes c }
 {
-    if c < 0x800 {
-        return Sequence::Bad;
+    match c {
+        0x800..=0xD7FF | 0xE000.. => Sequence::Char(c, 3),
+        _ => Sequence::Bad,
     }
-    if c < 0xD800 {
-        return Sequence::Char(c, 3);
-    }
-    if c < 0xE000 {
-        return Sequence::Bad;
-    }
-    Sequence::Char(c, 3)
 }
 
 // A sequence of three bytes, from the bits of each.
+#[tactic(auto, unfolding(definition::specs::Utf8::three), using(lemmas::proofs::Cases::tests))]
 fn three(x: u32, y: u32, z: u32) -> Sequence
     requires { x < 16 }
     ensures { result ≡ three x y z }
 {
-    if 64 <= y {
-        return Sequence::Bad;
-    }
-    if 64 <= z {
+    if 64 <= y || 64 <= z {
         return Sequence::Bad;
     }
     three_bytes(x * 4096 + y * 64 + z)
 }
 
 // What four bytes with the bits of c are: no code point that fewer bytes have, and none above 10FFFF.
+#[tactic(auto, unfolding(definition::specs::Utf8::four_bytes), using(lemmas::proofs::Cases::tests))]
 fn four_bytes(c: u32) -> Sequence
     ensures { result ≡ four_bytes c }
 {
-    if c < 0x10000 {
-        return Sequence::Bad;
+    match c {
+        0x10000..=0x10FFFF => Sequence::Char(c, 4),
+        _ => Sequence::Bad,
     }
-    if c < 0x110000 {
-        return Sequence::Char(c, 4);
-    }
-    Sequence::Bad
 }
 
 // A sequence of four bytes, from the bits of each.
+#[tactic(auto, unfolding(definition::specs::Utf8::four), using(lemmas::proofs::Cases::tests))]
 fn four(x: u32, y: u32, z: u32, t: u32) -> Sequence
     requires { x < 8 }
     ensures { result ≡ four x y z t }
 {
-    if 64 <= y {
-        return Sequence::Bad;
-    }
-    if 64 <= z {
-        return Sequence::Bad;
-    }
-    if 64 <= t {
+    if 64 <= y || 64 <= z || 64 <= t {
         return Sequence::Bad;
     }
     four_bytes(x * 262144 + y * 4096 + z * 64 + t)
 }
 
 // What stands at i: a character and its width, bytes that no legal sequence starts, or the end.
+#[tactic(auto, unfolding(definition::specs::Utf8::sequence), using(lemmas::proofs::Cases::tests, crate::proofs::Reading::read_within, crate::proofs::Reading::read_end))]
 pub fn sequence_at(text: &[u8], i: usize) -> Sequence
     ensures { result ≡ sequence_at text.now i }
 {

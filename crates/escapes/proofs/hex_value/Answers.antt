@@ -1,35 +1,29 @@
+use Prim.Native.Nat.{◌<◌}
 use native.Mathlib.Omega.{arith}
-use Prim.Native.Nat.{◌+◌}
-use mathlib.Core.Logic.{inl, inr}
+use mathlib.Core.Path.{◌∙◌}
+use lib.ListN.{length-take}
 use Rattle.number_value.proofs.Values.{digit_small}
-use Rattle.escapes.proofs.Hex.{most_small, hexed_starts, hexed_goes_on, hexed_ends}
+use Rattle.escapes.proofs.Hex.{most_small, hexed_starts, hexed_goes_on, hexed_ends, digits_are}
 use Rattle.escapes.proofs.hex_value.Goals as goal
 
-pub loop-i-init : goal.loop-i-init
-loop-i-init c = hexed_starts _ _ _
-
-pub returns-then-text-k : goal.returns-then-text-k
-returns-then-text-k c = hexed_ends c.loop-i.invariant (inr c.if-text-k.true)
+pub loop-digit-init : goal.loop-digit-init
+loop-digit-init c = hexed_starts _
 
 pub overflow_mul-value : goal.overflow_mul-value
 overflow_mul-value c =
-    let l = c.loop-i in
-    omega (arith, l.invariant.small, most_small l.i (omega arith))
+    let l = c.loop-digit in
+    let few : l.digit-index < 4 = omega (arith, c.min-end.ensures, simp length-take at c.loop-digit-test.true) in
+    omega (arith, l.invariant.small, most_small l.digit-index few)
 
 pub overflow_add-value : goal.overflow_add-value
 overflow_add-value c =
-    let l = c.loop-i in
-    let k = c.args.k in
-    omega
-    (arith, l.invariant.small, most_small l.i (omega arith), digit_small _ _ c.digit_value.ensures, c.type_inv.text (k + l.i))
+    let l = c.loop-digit in
+    let few : l.digit-index < 4 = omega (arith, c.min-end.ensures, simp length-take at c.loop-digit-test.true) in
+    omega (arith, l.invariant.small, most_small l.digit-index few, digit_small _ _ c.digit_value.ensures)
 
-pub loop-i-preserved : goal.loop-i-preserved
-loop-i-preserved c =
-    let k = c.args.k in
-    hexed_goes_on c.loop-i.invariant c.loop-i-test.true c.if-text-k.false
-    (omega (arith, c.type_inv.text (k + c.loop-i.i)))
-    _
-    c.digit_value.ensures
+pub loop-digit-preserved : goal.loop-digit-preserved
+loop-digit-preserved c =
+    hexed_goes_on c.loop-digit.invariant c.loop-digit-test.true (omega arith) _ c.digit_value.ensures
 
 pub returns : goal.returns
-returns c = hexed_ends c.loop-i.invariant (inl c.loop-i-test.false)
+returns c = hexed_ends c.loop-digit.invariant c.loop-digit-test.false ∙ digits_are _ _ _ _ c.requires.within (omega arith)

@@ -9,20 +9,20 @@ returns-in_default c = unescape_past _ _ (sym c.byte.ensures ∙ c.in_default.is
 
 pub returns-then-first-ne92 : goal.returns-then-first-ne92
 returns-then-first-ne92 c =
-    c.code_at.ensures ∙ unescape_plain _ _ _ (sym c.byte.ensures ∙ c.in-Byte.is) c.if-first-ne92.true
+    c.code_at.ensures ∙ unescape_plain _ _ _ (sym c.byte.ensures ∙ c.in-Some.is) c.if-first-ne92.true
 
 pub overflow_add-i : goal.overflow_add-i
 overflow_add-i c =
-    omega (arith, (byte_read _ _ (sym c.byte.ensures ∙ c.in-Byte.is)).0)
+    omega (arith, (byte_read _ _ (sym c.byte.ensures ∙ c.in-Some.is)).0)
 
 pub returns-in_default-byte : goal.returns-in_default-byte
 returns-in_default-byte c =
-    unescape_open _ _ _ (sym c.byte.ensures ∙ c.in-Byte.is) c.if-first-ne92.false (sym c.byte-2.ensures ∙ c.in_default-byte.is)
+    unescape_open _ _ _ (sym c.byte.ensures ∙ c.in-Some.is) c.if-first-ne92.false (sym c.byte-2.ensures ∙ c.in_default-byte.is)
 
 pub escaped-requires : goal.escaped-requires
-escaped-requires c = (byte_read _ _ (sym c.byte-2.ensures ∙ c.in-Byte-byte.is)).0
+escaped-requires c = (byte_read _ _ (sym c.byte-2.ensures ∙ c.in-Some-byte.is)).0
 
 pub returns : goal.returns
 returns c =
     c.escaped.ensures
-    ∙ unescape_slash _ _ _ (sym c.byte.ensures ∙ c.in-Byte.is) c.if-first-ne92.false _ (sym c.byte-2.ensures ∙ c.in-Byte-byte.is)
+    ∙ unescape_slash _ _ _ (sym c.byte.ensures ∙ c.in-Some.is) c.if-first-ne92.false _ (sym c.byte-2.ensures ∙ c.in-Some-byte.is)

@@ -39,16 +39,16 @@ overflow_mul-first c = omega (arith, c.loop-here.invariant.0.between.kept.begun)
 pub put_action-requires : goal.put_action-requires
 put_action-requires c = action_asks (c.ruled-action.ensures [] (omega arith)) (writes_asked c.loop-here.invariant.0)
 
-pub shape_of-records-in-Left : goal.shape_of-records-in-Left
-shape_of-records-in-Left c = c.put_action.auto.records ∙ c.loop-here.invariant.1
+pub shape_of-records-in-None : goal.shape_of-records-in-None
+shape_of-records-in-None c = c.put_action.auto.records ∙ c.loop-here.invariant.1
 
-pub shape_of-bytes-in-Left : goal.shape_of-bytes-in-Left
-shape_of-bytes-in-Left c = c.put_action.auto.bytes ∙ c.loop-here.invariant.2
+pub shape_of-bytes-in-None : goal.shape_of-bytes-in-None
+shape_of-bytes-in-None c = c.put_action.auto.bytes ∙ c.loop-here.invariant.2
 
-pub returns-in-Left : goal.returns-in-Left
-returns-in-Left c =
+pub returns-in-None : goal.returns-in-None
+returns-in-None c =
     let sees = rw c.in-Action.is at c.look.ensures in
-    then_action c.loop-here.invariant.0 sees c.ruled-action.ensures (rw c.in-Left.is at c.put_action.ensures) refl
+    then_action c.loop-here.invariant.0 sees c.ruled-action.ensures (rw c.in-None.is at c.put_action.ensures) refl
 
 pub overflow_add-count : goal.overflow_add-count
 overflow_add-count c = omega (arith, c.loop-here.invariant.0.between.kept.few)
@@ -56,9 +56,9 @@ overflow_add-count c = omega (arith, c.loop-here.invariant.0.between.kept.few)
 pub loop-here-smaller : goal.loop-here-smaller
 loop-here-smaller c =
     let sees = rw c.in-Action.is at c.look.ensures in
-    (token_passed c.loop-here.invariant.0 sees c.ruled-action.ensures _ _ _ _ _ (rw c.in-Token.is at c.put_action.ensures)).1
+    (token_passed c.loop-here.invariant.0 sees c.ruled-action.ensures _ _ _ (rw c.in-Some.is at c.put_action.ensures)).1
 
 pub loop-here-preserved : goal.loop-here-preserved
 loop-here-preserved c =
     let sees = rw c.in-Action.is at c.look.ensures in
-    ((token_passed c.loop-here.invariant.0 sees c.ruled-action.ensures _ _ _ _ _ (rw c.in-Token.is at c.put_action.ensures)).0, c.put_action.auto.records ∙ c.loop-here.invariant.1, c.put_action.auto.bytes ∙ c.loop-here.invariant.2)
+    ((token_passed c.loop-here.invariant.0 sees c.ruled-action.ensures _ _ _ (rw c.in-Some.is at c.put_action.ensures)).0, c.put_action.auto.records ∙ c.loop-here.invariant.1, c.put_action.auto.bytes ∙ c.loop-here.invariant.2)

@@ -1,53 +1,46 @@
-use Prim.Native.Nat.{◌-◌}
-use mathlib.Core.Path.{◌≡◌}
 use native.Mathlib.Omega.{arith}
-use lib.ListN.{length-take, length-drop}
-use Rattle.listing_lines.proofs.LineLaws.{tail_size, lined_starts, lined_length, lined_on, record_at}
+use lib.ListN.{length-append}
+use Rattle.listing_lines.proofs.LineLaws.{tail_size, lined_starts, lined_more, lined_on, lined_ends}
 use Rattle.listing_lines.proofs.lines_into.Goals as goal
 
-pub loop-k-init : goal.loop-k-init
-loop-k-init c = (lined_starts _ _, omega arith)
+pub loop-record-init : goal.loop-record-init
+loop-record-init c =
+    let from = c.chunks_exact-record-items.ensures in
+    rw c.into_iter-record-iterator.ensures.into_iter_gives (lined_starts _ from.size from.rest)
 
-pub overflow_mul-first : goal.overflow_mul-first
-overflow_mul-first c = record { fits = omega (arith, c.requires.records) }
-
-pub overflow_add-end : goal.overflow_add-end
-overflow_add-end c = record { fits = omega (arith, c.requires.records) }
-
-pub slice_bounds-line_into-end : goal.slice_bounds-line_into-end
-slice_bounds-line_into-end c = omega (arith, c.requires.records)
-
-pub slice_bounds-line_into-count-in-loop-k : goal.slice_bounds-line_into-count-in-loop-k
-slice_bounds-line_into-count-in-loop-k c =
-    let i = c.loop-k.invariant in
+pub slice_bounds-line_into-count : goal.slice_bounds-line_into-count
+slice_bounds-line_into-count c =
+    let i = c.loop-record.invariant in
     let p = c.requires in
-    omega (arith, lined_length i.0 (omega (arith, i.1, p.lines)), i.0.short, i.1, p.lines)
+    omega (arith, c.loop-record.auto.out, i.short, i.few, p.lines)
 
-pub slice_bounds-line_into-start-in-loop-k : goal.slice_bounds-line_into-start-in-loop-k
-slice_bounds-line_into-start-in-loop-k c =
-    let i = c.loop-k.invariant in
+pub slice_bounds-line_into-start : goal.slice_bounds-line_into-start
+slice_bounds-line_into-start c =
+    let i = c.loop-record.invariant in
     let p = c.requires in
-    omega (arith, lined_length i.0 (omega (arith, i.1, p.lines)), i.0.short, i.1, p.lines)
+    omega (arith, c.loop-record.auto.out, i.short, i.few, p.lines)
 
 pub line_into-at-requires : goal.line_into-at-requires
 line_into-at-requires c =
-    let i = c.loop-k.invariant in (
-      simp (length-take, length-drop) (omega (arith, c.requires.records, c.loop-k-test.true)),
-      omega (arith, tail_size c.loop-k.out c.loop-k.at, lined_length i.0 (omega (arith, i.1, c.requires.lines)), i.0.short, c.requires.lines, c.loop-k-test.true),
+    let i = c.loop-record.invariant in
+    let p = c.requires in
+    let s = c.in-Some.ensures.steps.1 in (
+      omega (arith, s.1, i.each),
+      omega (arith, tail_size c.loop-record.out c.loop-record.at, c.loop-record.auto.out, i.short, lined_more i _ _ p.records s.0 s.1, p.lines),
     )
 
 pub overflow_add-at : goal.overflow_add-at
 overflow_add-at c =
-    omega (arith, c.line_into-at.ensures.1, c.loop-k.invariant.0.short, c.requires.lines, c.loop-k-test.true)
+    let i = c.loop-record.invariant in
+    let p = c.requires in
+    let s = c.in-Some.ensures.steps.1 in
+    omega (arith, c.line_into-at.ensures.1, i.short, lined_more i _ _ p.records s.0 s.1, p.lines)
 
-pub loop-k-preserved : goal.loop-k-preserved
-loop-k-preserved c =
-    (lined_on c.loop-k.invariant.0 (record_at c.loop-k.k c.args.records.now) c.line_into-at.ensures, omega arith)
-
-pub shape_of-out : goal.shape_of-out
-shape_of-out c = lined_length c.loop-k.invariant.0 (omega (arith, c.loop-k.invariant.1, c.requires.lines))
+pub loop-record-preserved : goal.loop-record-preserved
+loop-record-preserved c =
+    let i = c.loop-record.invariant in
+    let s = c.in-Some.ensures.steps in
+    rw length-append (lined_on i _ _ c.requires.records s.1.0 s.1.1 s.0 c.line_into-at.ensures)
 
 pub returns : goal.returns
-returns c =
-    let e : c.loop-k.k ≡ c.args.count = omega (arith, c.loop-k.invariant.1, c.loop-k-test.false) in
-    rw (← e) c.loop-k.invariant.0.wrote
+returns c = lined_ends c.loop-record.invariant c.requires.records c.in-None.ensures.steps.1.0

@@ -1,10 +1,9 @@
--- The invariant is `Lined`: the lines of the first k records are written. The measure is how many records are left.
-use Prim.Native.Nat.{◌-◌, ◌≤◌}
+-- The invariant is `Lined`: as many records as were taken have their lines, and the others are left.
+use lib.ListN.{length}
 use Rattle.listing_lines.proofs.LineLaws.{Lined}
 use Rattle.listing_lines.proofs.lines_into.Given as goal
 
-abbrev pub invariant-loop-k : goal.invariant-loop-k
-invariant-loop-k l = Lined l.records l.initial.out l.at l.k l.out × (l.k ≤ l.count)
-
-abbrev pub decreases-loop-k : goal.decreases-loop-k
-decreases-loop-k l = l.count - l.k
+abbrev pub invariant-loop-record : goal.invariant-loop-record
+invariant-loop-record l =
+    let it = l.record-iterator in
+    Lined l.records l.initial.out l.count l.at (length l.yielded) it.size it.rest.now l.out

@@ -7,11 +7,11 @@ use Rattle.listing_rounds.proofs.RunsOn.{Going}
 use Rattle.listing_rounds.proofs.Written.{Written}
 use Rattle.listing_rounds.proofs.list_from.Given as goal
 
-abbrev pub invariant-loop-number : goal.invariant-loop-number
-invariant-loop-number g l = record {
+abbrev pub invariant-loop-refusal : goal.invariant-loop-refusal
+invariant-loop-refusal g l = record {
   going : Going l.text (cps "stdin") l.classes l.initial.from l.initial.records l.initial.payload l.initial.out l.records l.payload l.out l.from l.listed;
   written : Written l.text (cps "stdin") l.classes l.initial.from l.from (g.W.Write.contents l.initial.to) (g.W.Write.contents l.to);
 }
 
-abbrev pub decreases-loop-number : goal.decreases-loop-number
-decreases-loop-number g l = left l.text (first_of l.from)
+abbrev pub decreases-loop-refusal : goal.decreases-loop-refusal
+decreases-loop-refusal g l = left l.text (first_of l.from)

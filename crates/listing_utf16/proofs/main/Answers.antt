@@ -1,10 +1,11 @@
 -- The start isn't refused.
 use Rattle.std.proofs.Common.{ap}
-use Rattle.definition.specs.State.{start}
-use Rattle.definition.specs.Utf16.{utf16_start}
-use Rattle.definition.specs.declared.Utf16StartAnswer.{Utf16StartAnswer}
+use Rattle.std.specs.Prelude.{is_ok}
+use Rattle.lexer.proofs.FirstStarts.{first_utf16_start}
 use Rattle.listing_utf16.proofs.main.Goals as goal
 
+pub unwrap-state-requires : goal.unwrap-state-requires
+unwrap-state-requires c = ap is_ok (first_utf16_start _ c.start.ensures)
+
 pub list_input-requires : goal.list_input-requires
-unfolding start utf16_start
-list_input-requires c = ap (λ (a : Utf16StartAnswer). a.state.first) c.start-begun.ensures
+list_input-requires c = cc (first_utf16_start _ c.start.ensures, c.unwrap-state.ensures)

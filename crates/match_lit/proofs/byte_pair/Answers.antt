@@ -1,4 +1,4 @@
--- `byte_pair` is the conjunction of two tests; where the first passes, the offset after i is at most the text's end.
+-- Where the first byte stands, the offset after i is at most the text's end.
 use mathlib.Core.Path.{sym, ◌∙◌}
 use Rattle.match_lit.proofs.ByteLaws.{has_inside}
 use native.Mathlib.Omega.{arith}
@@ -6,9 +6,3 @@ use Rattle.match_lit.proofs.byte_pair.Goals as goal
 
 pub overflow_add-i : goal.overflow_add-i
 overflow_add-i c = omega (arith, has_inside _ _ _ (sym c.byte_is.ensures ∙ c.if-byte_is.true))
-
-pub returns-then-byte_is : goal.returns-then-byte_is
-returns-then-byte_is c = rw (sym c.byte_is.ensures ∙ c.if-byte_is.true) c.byte_is-then-byte_is.ensures
-
-pub returns : goal.returns
-returns c = rw (sym c.byte_is.ensures ∙ c.if-byte_is.false)

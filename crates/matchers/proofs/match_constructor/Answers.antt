@@ -17,7 +17,7 @@ overflow_add-i c =
 pub returns-then-is_constructor_start : goal.returns-then-is_constructor_start
 unfolding match_constructor
 returns-then-is_constructor_start c =
-    head_yes _ _ _ _ (sym c.sequence_at.ensures ∙ c.in-Char.is) (sym c.is_constructor_start.ensures ∙ c.if-is_constructor_start.true) c.star_ident_char.ensures
+    head_yes _ _ _ _ (sym c.sequence_at.ensures ∙ c.in-Char.is) (sym c.is_constructor_start.ensures ∙ c.if-is_constructor_start.true) c.star_chars.ensures
 
 pub returns : goal.returns
 unfolding match_constructor

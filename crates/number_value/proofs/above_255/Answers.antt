@@ -1,27 +1,36 @@
--- Each return is one way of reading a number: none, decimal digits, a 0 alone, decimal digits after a 0, and those of a base.
-use mathlib.Core.Path.{sym, ap, ◌∙◌}
+-- Each return is one way of reading a number: decimal digits, with a 0 before them or without, and those of a base.
+use mathlib.Core.Path.{◌≡◌, sym, ap, ◌∙◌}
+use native.Mathlib.Omega.{arith}
+use borrow.Author.Tests.{ltb-true}
 use lib.Dec.{ltb}
-use Rattle.number_value.proofs.Values.{base_named, int_empty, int_plain, int_zero, int_decimal, int_based}
+use lib.ListN.{length, get_or, take, drop, length-drop}
+use lib.Seq.{take_all}
+use Prim.Native.Nat.{◌-◌}
+use Rattle.number_value.proofs.Values.{base_named, int_short, int_plain, int_decimal, int_based}
+use Rattle.number_value.proofs.above_255.Goals.{in_default-via-then-number-lt2, in_default-via-else-number-lt2+in_default-1}
 use Rattle.number_value.proofs.above_255.Goals as goal
 
-pub returns-then-number-eq0 : goal.returns-then-number-eq0
-returns-then-number-eq0 c = sym (ap (ltb 255) (int_empty _ c.if-number-eq0.true))
+pub returns-in_default : goal.returns-in_default
+returns-in_default c =
+    let s = c.args.number.now in
+    elim c.in_default.branch [
+      | in_default-via-then-number-lt2 w ↦ c.digits_above_255.ensures ∙ sym (ap (ltb 255) (int_short s (omega (arith, ltb-true))))
+      | in_default-via-else-number-lt2+in_default-1 w ↦ c.digits_above_255.ensures ∙ sym (ap (ltb 255) (int_plain s (λ e. omega arith)))
+    ]
 
-pub returns-then-number-ne48 : goal.returns-then-number-ne48
-returns-then-number-ne48 c = c.digits_above_255.ensures ∙ sym (ap (ltb 255) (int_plain _ c.if-number-eq0.false c.if-number-ne48.true))
+pub digits_above_255-requires-in_default-base_of : goal.digits_above_255-requires-in_default-base_of
+digits_above_255-requires-in_default-base_of c = rw c.base_of.ensures (base_named _ (λ e. omega arith))
 
-pub returns-then-number-eq1 : goal.returns-then-number-eq1
-returns-then-number-eq1 c = sym (ap (ltb 255) (int_zero _ c.if-number-eq1.true c.if-number-ne48.false))
+pub returns-in-0 : goal.returns-in-0
+returns-in-0 c =
+    let s = c.args.number.now in
+    let zero : get_or s 0 0 ≡ 48 = omega arith in
+    c.digits_above_255-in-0.ensures ∙ sym (ap (ltb 255) (int_decimal s c.in-48.len_at_least zero (sym c.base_of.ensures ∙ c.in-0.is)))
 
-pub returns-then-base-eq0 : goal.returns-then-base-eq0
-returns-then-base-eq0 c =
-    c.digits_above_255-then-base-eq0.ensures
-    ∙ sym (ap (ltb 255) (int_decimal _ c.if-number-eq0.false c.if-number-eq1.false c.if-number-ne48.false (sym c.base_of-base.ensures ∙ c.if-base-eq0.true)))
-
-pub digits_above_255-requires-2 : goal.digits_above_255-requires-2
-digits_above_255-requires-2 c = rw c.base_of-base.ensures (base_named _ (λ e. c.if-base-eq0.false (c.base_of-base.ensures ∙ e)))
-
-pub returns : goal.returns
-returns c =
-    rw c.base_of-base.ensures at c.digits_above_255-2.ensures
-    ∙ sym (ap (ltb 255) (int_based _ c.if-number-eq0.false c.if-number-eq1.false c.if-number-ne48.false (λ e. c.if-base-eq0.false (c.base_of-base.ensures ∙ e))))
+pub returns-in_default-base_of : goal.returns-in_default-base_of
+returns-in_default-base_of c =
+    let s = c.args.number.now in
+    let zero : get_or s 0 0 ≡ 48 = omega arith in
+    let rest : take (length s - 2) (drop 2 s) ≡ drop 2 s = take_all _ _ (simp length-drop (omega arith)) in
+    rw (c.base_of.ensures, rest) at c.digits_above_255-in_default-base_of.ensures
+    ∙ sym (ap (ltb 255) (int_based s c.in-48.len_at_least zero (λ e. omega arith)))

@@ -1,7 +1,5 @@
 -- Each case asks for what the description tells, and writes what it stands for.
-use mathlib.Core.Path.{◌∙◌}
-use native.Mathlib.Nat.{le_refl}
-use Rattle.payload_write.proofs.Parts.{whole}
+use Rattle.payload_write.proofs.Parts.{copied}
 use native.Mathlib.Omega.{arith}
 use Rattle.payload_write.proofs.write.Goals as goal
 
@@ -19,11 +17,6 @@ pub write_greater-requires : goal.write_greater-requires
 write_greater-requires c =
     let w = rw c.in-Greater.is at c.requires in
     (w.inside, w.room)
-
-pub copy_part-requires-in-Name : goal.copy_part-requires-in-Name
-copy_part-requires-in-Name c =
-    let w = rw c.in-Name.is at c.requires in
-    record { within = le_refl _; room = omega (arith, w.room) }
 
 pub show_into-requires : goal.show_into-requires
 show_into-requires c =
@@ -54,7 +47,7 @@ pub returns-in-Part : goal.returns-in-Part
 returns-in-Part c = rw c.in-Part.is c.copy_part.ensures.bytes
 
 pub returns-in-Name : goal.returns-in-Name
-returns-in-Name c = rw c.in-Name.is (c.copy_part-in-Name.ensures.bytes ∙ whole _ _)
+returns-in-Name c = rw c.in-Name.is (copied _ c.copy_from_slice.ensures.after)
 
 pub returns-in-Line : goal.returns-in-Line
 returns-in-Line c = rw c.in-Line.is c.show_into.ensures.bytes

@@ -13,10 +13,10 @@ overflow_cast-result c = omega (arith, count_fits _ _ _ _ (omega arith) c.count_
 
 pub returns : goal.returns
 returns c =
-    let begun : Known one_each c.args.text.now c.args.st (record { off = c.if-i-known.from; col = c.if-i-known.col }) × (c.if-i-known.from ≤ c.args.i) =
+    let begun : Known one_each c.args.text.now c.args.st c.if-i-known.start × (c.if-i-known.start.off ≤ c.args.i) =
     elim c.if-i-known.branch [
-      | then-i-known w ↦ (rw (w.from-is, w.col-is) (start_known _ _ _), rw w.from-is c.requires.from)
-      | else-i-known w ↦ (rw (w.from-is, w.col-is) c.requires.cached, rw w.from-is w.if-i-known.false)
+      | then-i-known w ↦ rw w.start-is (start_known _ _ _, c.requires.from)
+      | else-i-known w ↦ rw w.start-is (c.requires.cached, w.if-i-known.false)
     ] in
     from_known _ _ _ _ _ _ begun.0 begun.1 c.count_chars-n.ensures
 

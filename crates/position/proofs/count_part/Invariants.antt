@@ -1,11 +1,9 @@
--- The invariant is `Counting`: what is counted, and that the count of what is left makes it whole. The measure is what is left.
-use Prim.Native.Nat.{◌-◌}
-use Rattle.definition.specs.Position.{one_each}
-use Rattle.position.proofs.Counting.{Counting}
+-- The invariant: what is counted is the sum of the bytes so far.
+use mathlib.Core.Path.{◌≡◌}
+use lib.ListN.{take}
+use Rattle.std.specs.Prelude.{sum_by}
+use Rattle.position.specs.Columns.{unit}
 use Rattle.position.proofs.count_part.Given as goal
 
-abbrev pub invariant-loop-k : goal.invariant-loop-k
-invariant-loop-k l = Counting one_each l.text l.i l.j l.n l.k
-
-abbrev pub decreases-loop-k : goal.decreases-loop-k
-decreases-loop-k l = l.j - l.k
+abbrev pub invariant-loop-b : goal.invariant-loop-b
+invariant-loop-b l = l.n ≡ sum_by unit (take l.b-index l.part)

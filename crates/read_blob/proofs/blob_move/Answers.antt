@@ -11,4 +11,4 @@ returns-in_default c = move_inside _ _ (sym c.match_lit.ensures ∙ c.in_default
 
 pub returns : goal.returns
 unfolding cps encode_all encode
-returns c = move_close _ _ (sym c.match_lit.ensures ∙ c.in-To.is)
+returns c = move_close _ _ (sym c.match_lit.ensures ∙ c.in-Some.is)

@@ -26,9 +26,9 @@ overflow_cast-e-2 c =
 pub overflow_cast-item : goal.overflow_cast-item
 overflow_cast-item c =
     let h = c.requires.0 in
-    omega (arith, c.span-2.ensures, h.named, h.standing.stands.short)
+    omega (arith, c.saturating_sub-2.ensures, h.named, h.standing.stands.short)
 
 pub returns : goal.returns
 returns c =
     closed_reads _ _ c.args.lang _ _ _ c.requires.0 c.requires.1 _ _ _ _ _ _ c.pos_of-start.ensures c.pos_of-end.ensures
-    c.kind_of.ensures c.span-2.ensures c.span.ensures c.advance-next.ensures
+    c.kind_of.ensures c.saturating_sub-2.ensures c.saturating_sub.ensures c.advance-next.ensures

@@ -12,4 +12,4 @@ returns-in_default c =
 
 pub returns : goal.returns
 returns c =
-    move_line _ _ c.if-text-i.false (sym c.match_newline.ensures ∙ c.in-To.is)
+    move_line _ _ c.if-text-i.false (sym c.match_newline.ensures ∙ c.in-Some.is)

@@ -15,4 +15,4 @@ returns-in_default c =
 
 pub returns : goal.returns
 returns c =
-    lang_line _ _ c.if-text-i.false c.run_end-j.ensures c.if-i-j.false (sym c.match_newline.ensures ∙ c.in-To.is)
+    lang_line _ _ c.if-text-i.false c.run_end-j.ensures c.if-i-j.false (sym c.match_newline.ensures ∙ c.in-Some.is)

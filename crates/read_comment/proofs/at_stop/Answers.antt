@@ -32,12 +32,12 @@ at_mark-requires c =
 
 pub next_line-requires : goal.next_line-requires
 next_line-requires c =
-    let e = (newline_ends _ _).at (sym c.match_newline.ensures ∙ c.in-To.is) in
+    let e = (newline_ends _ _).at (sym c.match_newline.ensures ∙ c.in-Some.is) in
     let g = c.requires.inside.standing.stands in
     let h = small g in
     (omega (arith, e.within, g.short), omega (arith, h.line))
 
 pub returns : goal.returns
 returns c =
-    turns_line c.requires c.args.from (sym c.byte_pair.ensures ∙ c.if-byte_pair.false) (sym c.match_newline.ensures ∙ c.in-To.is)
+    turns_line c.requires c.args.from (sym c.byte_pair.ensures ∙ c.if-byte_pair.false) (sym c.match_newline.ensures ∙ c.in-Some.is)
     c.next_line.ensures

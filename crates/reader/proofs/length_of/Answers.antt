@@ -8,7 +8,7 @@ text_length-requires c = rw c.in-Text.is at c.requires.listed
 pub overflow_add-result : goal.overflow_add-result
 overflow_add-result c =
     let small = rw c.in-Greater.is at c.requires.small in
-    omega (arith, c.span-in-Greater.ensures)
+    omega (arith, c.saturating_sub-in-Greater.ensures)
 
 pub overflow_add-result-in-FileLine : goal.overflow_add-result-in-FileLine
 overflow_add-result-in-FileLine c =
@@ -23,16 +23,16 @@ overflow_add-result-in-FileLine-2 c =
 pub overflow_add-result-in-Blob : goal.overflow_add-result-in-Blob
 overflow_add-result-in-Blob c =
     let small = rw c.in-Blob.is at c.requires.small in
-    omega (arith, c.span-in-Blob.ensures, c.span-in-Blob-2.ensures)
+    omega (arith, c.saturating_sub-in-Blob.ensures, c.saturating_sub-in-Blob-2.ensures)
 
 pub returns-in-Part : goal.returns-in-Part
-returns-in-Part c = rw c.in-Part.is c.span.ensures
+returns-in-Part c = rw c.in-Part.is c.saturating_sub.ensures
 
 pub returns-in-Text : goal.returns-in-Text
 returns-in-Text c = rw c.in-Text.is c.text_length.ensures
 
 pub returns-in-Greater : goal.returns-in-Greater
-returns-in-Greater c = rw c.in-Greater.is (omega (arith, c.span-in-Greater.ensures))
+returns-in-Greater c = rw c.in-Greater.is (omega (arith, c.saturating_sub-in-Greater.ensures))
 
 pub returns-in-Name : goal.returns-in-Name
 returns-in-Name c = rw c.in-Name.is
@@ -47,4 +47,4 @@ pub returns-in-Piece : goal.returns-in-Piece
 returns-in-Piece c = rw c.in-Piece.is
 
 pub returns-in-Blob : goal.returns-in-Blob
-returns-in-Blob c = rw c.in-Blob.is (omega (arith, c.span-in-Blob.ensures, c.span-in-Blob-2.ensures))
+returns-in-Blob c = rw c.in-Blob.is (omega (arith, c.saturating_sub-in-Blob.ensures, c.saturating_sub-in-Blob-2.ensures))

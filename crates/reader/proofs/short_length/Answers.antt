@@ -7,7 +7,7 @@ pub text_length-requires : goal.text_length-requires
 text_length-requires c = rw c.in-Text.is at c.requires
 
 pub returns-in-Part : goal.returns-in-Part
-returns-in-Part c = rw (c.in-Part.is, c.span.ensures)
+returns-in-Part c = rw (c.in-Part.is, c.saturating_sub.ensures)
 
 pub returns-in-Text : goal.returns-in-Text
 returns-in-Text c = rw (c.in-Text.is, c.text_length.ensures)

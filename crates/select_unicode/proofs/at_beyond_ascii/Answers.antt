@@ -1,12 +1,9 @@
 -- `at_beyond_ascii` is the best of places 7, 8, 12, 14, 15 and 49; where an identifier begins, 15 and 49 leave it as it is.
+use Rattle.std.specs.Prelude.{Some}
 use mathlib.Core.Path.{refl, sym, ap, ◌∙◌}
-use Rattle.definition.specs.declared.Match.TheVariants.{To}
 use Rattle.select_places.proofs.Chains.{kept, placed}
 use Rattle.select_unicode.proofs.After.{three_up, no_ident, ident_chosen}
 use Rattle.select_unicode.proofs.at_beyond_ascii.Goals as goal
-
-pub ident_decoded-requires : goal.ident_decoded-requires
-ident_decoded-requires c = c.requires.0
 
 pub constructor_after-requires : goal.constructor_after-requires
 constructor_after-requires c = c.requires.0
@@ -25,7 +22,7 @@ returns-then-is_ident_start c =
     in
     let a = c.args in
     ident_chosen a.text.now a.file.now a.i a.c a.j (sym c.is_ident_start.ensures ∙ c.if-is_ident_start.true)
-    (placed a.i 14 c.try_place.ensures start (ap To c.ident_decoded.ensures))
+    (placed a.i 14 c.try_place.ensures start (ap Some c.star_decoded.ensures))
 
 pub returns : goal.returns
 returns c =

@@ -19,7 +19,7 @@ words-init c =
 
 pub loop-j-init : goal.loop-j-init
 unfolding early_literals cps encode_all encode
-loop-j-init c = compare_start early _ c.words-test.true (row_length early c.words.next)
+loop-j-init c = compare_start early _ c.words-test.true (row_length early c.words.k)
 
 pub early_byte-requires : goal.early_byte-requires
 early_byte-requires c = (c.words-test.true, compare_index 20 early early_short _ c.loop-j.invariant c.loop-j-test.true)
@@ -33,10 +33,6 @@ words-preserved-then-not-byte_is c =
 pub overflow_add-end : goal.overflow_add-end
 overflow_add-end c = omega (arith, has_inside _ _ _ (sym c.byte_is.ensures ∙ c.if-not-byte_is.false))
 
-pub overflow_add-j : goal.overflow_add-j
-overflow_add-j c =
-    omega (arith, compare_index 20 early early_short _ c.loop-j.invariant c.loop-j-test.true)
-
 pub loop-j-preserved : goal.loop-j-preserved
 loop-j-preserved c =
     compare_on 20 early early_short _ c.loop-j.invariant c.loop-j-test.true c.early_byte.ensures (sym c.byte_is.ensures ∙ c.if-not-byte_is.false)
@@ -45,7 +41,7 @@ pub words-preserved : goal.words-preserved
 unfolding early_literals
 words-preserved c =
     let there = compared 20 early early_short _ c.loop-j.invariant c.loop-j-test.false in
-    let number = own_number (words_of early_literals) c.words.next c.words-test.true in (
+    let number = own_number (words_of early_literals) c.words.k c.words-test.true in (
       rw c.keep-best.ensures (keep_later _ _ c.words.invariant.0),
       row_take _ 1 _ early _ 15 _ c.words-test.true (omega arith) there number c.keep-best.ensures ∙ c.words.invariant.1,
     )

@@ -12,28 +12,30 @@ use Rattle.table_kw_op.proofs.kw_op.Goals as goal
 pub returns-then-text-i : goal.returns-then-text-i
 returns-then-text-i c = c.nothing.ensures ∙ sym (kw_past _ _ c.if-text-i.true)
 
-pub returns-then-not-op_char_at : goal.returns-then-not-op_char_at
-returns-then-not-op_char_at c =
-    c.nothing-then-not-op_char_at.ensures
-    ∙ sym (kw_reach_none _ _ c.if-text-i.false c.kw_op_reach-n.ensures c.if-n-ne0.true (sym c.op_char_at.ensures ∙ c.if-not-op_char_at.true))
+pub returns-then-not-passes_at : goal.returns-then-not-passes_at
+returns-then-not-passes_at c =
+    c.nothing-then-not-passes_at.ensures
+    ∙ sym (kw_reach_none _ _ c.if-text-i.false c.in-Some.ensures (sym c.passes_at.ensures ∙ c.if-not-passes_at.true))
 
-pub returns-then-word-ge9 : goal.returns-then-word-ge9
-returns-then-word-ge9 c = c.nothing-then-word-ge9.ensures ∙ sym (kw_none _ _ c.kw_op_word-word.ensures c.if-word-ge9.true)
+pub returns-in_default-kw_op_word : goal.returns-in_default-kw_op_word
+returns-in_default-kw_op_word c =
+    c.nothing-in_default-kw_op_word.ensures ∙ sym (kw_none _ _ c.in_default-kw_op_word.ensures)
 
 pub overflow_add-i-2 : goal.overflow_add-i-2
 unfolding kw_op_rules cps encode_all encode
 overflow_add-i-2 c =
-    let k = c.kw_op_word-word.result in
+    let k = c.in-Some-kw_op_word.word in
     omega (arith, row_length kw_ops k, row_short 6 kw_ops kw_short k)
 
-pub returns-in_default : goal.returns-in_default
+pub returns-in_default-plus_ascii : goal.returns-in_default-plus_ascii
 unfolding kw_op_rules cps encode_all encode
-returns-in_default c =
-    let k = c.kw_op_word-word in
-    c.nothing-in_default.ensures ∙ sym (kw_no _ _ k.ensures c.if-word-ge9.false (row_length kw_ops k.result) (sym c.plus_op_char.ensures ∙ c.in_default.is))
+returns-in_default-plus_ascii c =
+    let k = c.in-Some-kw_op_word in
+    c.nothing-in_default-plus_ascii.ensures
+    ∙ sym (kw_no _ _ k.ensures.0 k.ensures.1 (row_length kw_ops k.word) (sym c.plus_ascii.ensures ∙ c.in_default-plus_ascii.is))
 
 pub returns : goal.returns
 unfolding kw_op_rules cps encode_all encode
 returns c =
-    let k = c.kw_op_word-word in
-    sym (kw_yes _ _ k.ensures c.if-word-ge9.false (row_length kw_ops k.result) (sym c.plus_op_char.ensures ∙ c.in-To.is))
+    let k = c.in-Some-kw_op_word in
+    sym (kw_yes _ _ k.ensures.0 k.ensures.1 (row_length kw_ops k.word) (sym c.plus_ascii.ensures ∙ c.in-Some-plus_ascii.is))

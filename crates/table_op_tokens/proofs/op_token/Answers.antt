@@ -12,11 +12,11 @@ returns-then-text-i c = c.nothing.ensures ∙ sym (token_past _ _ c.if-text-i.tr
 
 pub returns-in-33 : goal.returns-in-33
 unfolding op_tokens cps encode_all encode
-returns-in-33 c = c.only_pair.ensures ∙ token_is _ _ c.if-text-i.false c.in-33.is
+returns-in-33 c = c.only.ensures ∙ token_is _ _ c.if-text-i.false c.in-33.is
 
 pub returns-in-35 : goal.returns-in-35
 unfolding op_tokens cps encode_all encode
-returns-in-35 c = c.only_byte.ensures ∙ token_is _ _ c.if-text-i.false c.in-35.is
+returns-in-35 c = c.only-in-35.ensures ∙ token_is _ _ c.if-text-i.false c.in-35.is
 
 pub returns-in-36 : goal.returns-in-36
 unfolding op_tokens cps encode_all encode
@@ -24,11 +24,11 @@ returns-in-36 c = c.at_dollar.ensures ∙ token_is _ _ c.if-text-i.false c.in-36
 
 pub returns-in-37 : goal.returns-in-37
 unfolding op_tokens cps encode_all encode
-returns-in-37 c = c.only_pair-in-37.ensures ∙ token_is _ _ c.if-text-i.false c.in-37.is
+returns-in-37 c = c.only-in-37.ensures ∙ token_is _ _ c.if-text-i.false c.in-37.is
 
 pub returns-in-38 : goal.returns-in-38
 unfolding op_tokens cps encode_all encode
-returns-in-38 c = c.only_byte-in-38.ensures ∙ token_is _ _ c.if-text-i.false c.in-38.is
+returns-in-38 c = c.only-in-38.ensures ∙ token_is _ _ c.if-text-i.false c.in-38.is
 
 pub returns-in-40 : goal.returns-in-40
 unfolding op_tokens cps encode_all encode
@@ -36,11 +36,11 @@ returns-in-40 c = c.at_paren.ensures ∙ token_is _ _ c.if-text-i.false c.in-40.
 
 pub returns-in-41 : goal.returns-in-41
 unfolding op_tokens cps encode_all encode
-returns-in-41 c = c.only_byte-in-41.ensures ∙ token_is _ _ c.if-text-i.false c.in-41.is
+returns-in-41 c = c.only-in-41.ensures ∙ token_is _ _ c.if-text-i.false c.in-41.is
 
 pub returns-in-44 : goal.returns-in-44
 unfolding op_tokens cps encode_all encode
-returns-in-44 c = c.only_byte-in-44.ensures ∙ token_is _ _ c.if-text-i.false c.in-44.is
+returns-in-44 c = c.only-in-44.ensures ∙ token_is _ _ c.if-text-i.false c.in-44.is
 
 pub returns-in-45 : goal.returns-in-45
 unfolding op_tokens cps encode_all encode
@@ -52,7 +52,7 @@ returns-in-46 c = c.at_point.ensures ∙ token_is _ _ c.if-text-i.false c.in-46.
 
 pub returns-in-47 : goal.returns-in-47
 unfolding op_tokens cps encode_all encode
-returns-in-47 c = c.only_pair-in-47.ensures ∙ token_is _ _ c.if-text-i.false c.in-47.is
+returns-in-47 c = c.only-in-47.ensures ∙ token_is _ _ c.if-text-i.false c.in-47.is
 
 pub returns-in-58 : goal.returns-in-58
 unfolding op_tokens cps encode_all encode
@@ -60,7 +60,7 @@ returns-in-58 c = c.at_colon.ensures ∙ token_is _ _ c.if-text-i.false c.in-58.
 
 pub returns-in-59 : goal.returns-in-59
 unfolding op_tokens cps encode_all encode
-returns-in-59 c = c.only_byte-in-59.ensures ∙ token_is _ _ c.if-text-i.false c.in-59.is
+returns-in-59 c = c.only-in-59.ensures ∙ token_is _ _ c.if-text-i.false c.in-59.is
 
 pub returns-in-60 : goal.returns-in-60
 unfolding op_tokens cps encode_all encode
@@ -80,19 +80,19 @@ returns-in-91 c = c.at_bracket.ensures ∙ token_is _ _ c.if-text-i.false c.in-9
 
 pub returns-in-92 : goal.returns-in-92
 unfolding op_tokens cps encode_all encode
-returns-in-92 c = c.only_pair-in-92.ensures ∙ token_is _ _ c.if-text-i.false c.in-92.is
+returns-in-92 c = c.only-in-92.ensures ∙ token_is _ _ c.if-text-i.false c.in-92.is
 
 pub returns-in-93 : goal.returns-in-93
 unfolding op_tokens cps encode_all encode
-returns-in-93 c = c.only_byte-in-93.ensures ∙ token_is _ _ c.if-text-i.false c.in-93.is
+returns-in-93 c = c.only-in-93.ensures ∙ token_is _ _ c.if-text-i.false c.in-93.is
 
 pub returns-in-114 : goal.returns-in-114
 unfolding op_tokens cps encode_all encode
-returns-in-114 c = c.at_returns.ensures ∙ token_is _ _ c.if-text-i.false c.in-114.is
+returns-in-114 c = c.only-in-114.ensures ∙ token_is _ _ c.if-text-i.false c.in-114.is
 
 pub returns-in-117 : goal.returns-in-117
 unfolding op_tokens cps encode_all encode
-returns-in-117 c = c.only_pair-in-117.ensures ∙ token_is _ _ c.if-text-i.false c.in-117.is
+returns-in-117 c = c.only-in-117.ensures ∙ token_is _ _ c.if-text-i.false c.in-117.is
 
 pub returns-in-123 : goal.returns-in-123
 unfolding op_tokens cps encode_all encode
@@ -104,7 +104,7 @@ returns-in-124 c = c.at_bar.ensures ∙ token_is _ _ c.if-text-i.false c.in-124.
 
 pub returns-in-125 : goal.returns-in-125
 unfolding op_tokens cps encode_all encode
-returns-in-125 c = c.only_byte-in-125.ensures ∙ token_is _ _ c.if-text-i.false c.in-125.is
+returns-in-125 c = c.only-in-125.ensures ∙ token_is _ _ c.if-text-i.false c.in-125.is
 
 pub returns-in-126 : goal.returns-in-126
 unfolding op_tokens cps encode_all encode

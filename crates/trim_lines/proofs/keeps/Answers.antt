@@ -8,6 +8,6 @@ pub returns-then-b-eq10 : goal.returns-then-b-eq10
 unfolding keeps
 returns-then-b-eq10 c = search (all_tests, rules)
 
-pub returns : goal.returns
+pub returns-else-b-eq10 : goal.returns-else-b-eq10
 unfolding keeps
-returns c = search (all_tests, rules)
+returns-else-b-eq10 c = search (all_tests, rules)

@@ -7,4 +7,4 @@ pub returns-then-b-eq10 : goal.returns-then-b-eq10
 returns-then-b-eq10 c = sym (left_newline _ _ _ c.if-b-eq10.true)
 
 pub returns : goal.returns
-returns c = c.span.ensures ∙ sym (left_other _ _ _ c.if-b-eq10.false)
+returns c = c.saturating_sub.ensures ∙ sym (left_other _ _ _ c.if-b-eq10.false)

@@ -9,4 +9,4 @@ recount_plain-requires c =
 pub returns-then-is_plain : goal.returns-then-is_plain
 returns-then-is_plain c =
     let p = c.is_plain.ensures c.if-is_plain.true in
-    plainly c.requires p.plain _ p.here_begun c.recount_plain.ensures
+    plainly c.requires p.plain _ p.not_carried c.recount_plain.ensures

@@ -8,8 +8,8 @@ recount_start-start-requires c =
 
 pub recount_position-requires : goal.recount_position-requires
 recount_position-requires c =
-    to_4 c.requires c.recount_extra-extra.ensures c.args.begun c.recount_start-start.ensures
+    to_4 c.requires c.recount_extra-extra.ensures c.args.carried c.recount_start-start.ensures
 
 pub returns : goal.returns
 returns c =
-    all_done c.requires c.recount_extra-extra.ensures c.args.begun c.recount_start-start.ensures c.recount_position.ensures
+    all_done c.requires c.recount_extra-extra.ensures c.args.carried c.recount_start-start.ensures c.recount_position.ensures

@@ -2,10 +2,10 @@
 use Rattle.utf16_positions.proofs.RecordLaws.{carried}
 use Rattle.utf16_positions.proofs.recount_start.Goals as goal
 
-pub returns-in-Here : goal.returns-in-Here
-returns-in-Here c = rw c.in-Here.is c.recount_position.ensures
+pub returns-in-None : goal.returns-in-None
+returns-in-None c = rw c.in-None.is c.recount_position.ensures
 
-pub returns-in-Carried : goal.returns-in-Carried
-returns-in-Carried c =
+pub returns-in-Some : goal.returns-in-Some
+returns-in-Some c =
     let h = c.requires in
-    rw c.in-Carried.is (carried h.0 h.1 _)
+    rw c.in-Some.is (carried h.0 h.1 _)

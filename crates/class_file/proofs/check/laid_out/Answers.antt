@@ -7,16 +7,16 @@ use Rattle.class_file.proofs.check.laid_out.Goals as goal
 pub loop-k-init : goal.loop-k-init
 loop-k-init c = placed_start _
 
-pub returns-then-number_at-place : goal.returns-then-number_at-place
+pub returns-then-from-place : goal.returns-then-from-place
 unfolding class_offset
-returns-then-number_at-place c =
-    sym (placed_wrong _ _ _ c.loop-k.invariant c.loop-k-test.true (λ e. c.if-number_at-place.true (c.number_at.ensures ∙ e)))
+returns-then-from-place c =
+    sym (placed_wrong _ _ _ c.loop-k.invariant c.loop-k-test.true (λ e. c.if-from-place.true (c.from.ensures ∙ (c.number_at.ensures ∙ e))))
 
 pub loop-k-preserved : goal.loop-k-preserved
 unfolding class_offset class_count
 loop-k-preserved c =
-    placed_next _ _ _ _ c.loop-k.invariant c.loop-k-test.true (omega arith) c.number_at-in-loop-k.ensures
-    (sym c.number_at.ensures ∙ c.if-number_at-place.false)
+    placed_next _ _ _ _ c.loop-k.invariant c.loop-k-test.true (omega arith) (c.from-in-loop-k.ensures ∙ c.number_at-in-loop-k.ensures)
+    (sym c.number_at.ensures ∙ (sym c.from.ensures ∙ c.if-from-place.false))
 
 pub returns : goal.returns
-returns c = sym (placed_end _ _ _ c.loop-k.invariant c.loop-k-test.false)
+returns c = sym (placed_end _ _ _ c.loop-k.invariant (omega arith))

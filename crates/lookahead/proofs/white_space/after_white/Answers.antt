@@ -8,13 +8,13 @@ loop-next-init c = after_white_starts c.requires
 pub past_white-requires : goal.past_white-requires
 past_white-requires c = c.loop-next.invariant.ready
 
-pub returns-in_default : goal.returns-in_default
-returns-in_default c = c.loop-next.invariant
+pub returns : goal.returns
+returns c = c.loop-next.invariant
 
 pub loop-next-smaller : goal.loop-next-smaller
 loop-next-smaller c =
-    (after_white_on c.loop-next.invariant (rw c.in-On.is at c.past_white.ensures)).1
+    (after_white_on c.loop-next.invariant (rw c.in-Some.is at c.past_white.ensures)).1
 
 pub loop-next-preserved : goal.loop-next-preserved
 loop-next-preserved c =
-    (after_white_on c.loop-next.invariant (rw c.in-On.is at c.past_white.ensures)).0
+    (after_white_on c.loop-next.invariant (rw c.in-Some.is at c.past_white.ensures)).0

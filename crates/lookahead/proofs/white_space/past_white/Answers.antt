@@ -6,17 +6,17 @@ use Rattle.lookahead.proofs.white_space.past_white.Goals as goal
 
 pub moved-requires : goal.moved-requires
 moved-requires c =
-    end_fits (blank_chose c.requires (sym c.blank_at.ensures ∙ c.if-blank_at.true) c.star_anywhite.ensures)
+    end_fits (blank_chose c.requires (sym c.passes_at.ensures ∙ c.if-passes_at.true) c.star_chars.ensures)
 
-pub returns-then-blank_at : goal.returns-then-blank_at
-returns-then-blank_at c =
-    blank_passes c.requires (sym c.blank_at.ensures ∙ c.if-blank_at.true) c.star_anywhite.ensures c.moved.ensures
+pub returns-then-passes_at : goal.returns-then-passes_at
+returns-then-passes_at c =
+    blank_passes c.requires (sym c.passes_at.ensures ∙ c.if-passes_at.true) c.star_chars.ensures c.moved.ensures
 
 pub next_line-requires : goal.next_line-requires
 next_line-requires c =
-    let h = line_chose c.requires (sym c.byte_either.ensures ∙ c.if-not-byte_either.false) (sym c.match_newline.ensures ∙ c.in-To.is) in
+    let h = line_chose c.requires (sym c.byte_either.ensures ∙ c.if-not-byte_either.false) (sym c.match_newline.ensures ∙ c.in_ok-e.was) in
     (end_fits h, line_fits h)
 
 pub returns : goal.returns
 returns c =
-    line_passes c.requires (sym c.byte_either.ensures ∙ c.if-not-byte_either.false) (sym c.match_newline.ensures ∙ c.in-To.is) c.next_line.ensures
+    line_passes c.requires (sym c.byte_either.ensures ∙ c.if-not-byte_either.false) (sym c.match_newline.ensures ∙ c.in_ok-e.was) c.next_line.ensures

@@ -1,17 +1,12 @@
-use mathlib.Core.Path.{sym, ◌∙◌}
-use Rattle.number_value.proofs.Stripping.{left_starts, left_goes_on, left_stops, left_ends}
+-- `strip_left` answers where the first byte that stays is, or the end.
+use borrow.Author.Rules.{rules}
+use Rattle.std.proofs.lemmas.Iterator.{YieldsList-from_slice}
+use Rattle.std.proofs.lemmas.Iterator.Search.{position_from_yields_List}
+use Rattle.number_value.proofs.Stripping.{stays, left_found}
 use Rattle.number_value.proofs.cleaning.strip_left.Goals as goal
 
-pub loop-from-init : goal.loop-from-init
-loop-from-init c = left_starts _
-
-pub returns-then-not-strips : goal.returns-then-not-strips
-returns-then-not-strips c =
-    left_stops c.loop-from.invariant c.loop-from-test.true (sym c.strips.ensures ∙ c.if-not-strips.true)
-
-pub loop-from-preserved : goal.loop-from-preserved
-loop-from-preserved c =
-    left_goes_on c.loop-from.invariant c.loop-from-test.true (sym c.strips.ensures ∙ c.if-not-strips.false)
-
 pub returns : goal.returns
-returns c = left_ends c.loop-from.invariant c.loop-from-test.false
+returns c =
+    let s = c.args.lexeme.now in
+    let found = position_from_yields_List stays _ _ _ c.position.ensures.ran (YieldsList-from_slice s cc) (λ x b q k. search rules) in
+    rw c.unwrap_or.ensures (left_found s c.position.result found)

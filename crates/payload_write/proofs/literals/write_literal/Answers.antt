@@ -1,4 +1,3 @@
-use Prim.Native.Nat.{◌-◌}
 use Rattle.payload_write.proofs.WriteLaws.{writing_starts, writing_length, writing_ends, writing_puts, writing_fits, writing_less, writing_on}
 use native.Mathlib.Omega.{arith}
 use Rattle.payload_write.proofs.literals.write_literal.Goals as goal

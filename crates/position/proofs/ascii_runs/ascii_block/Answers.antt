@@ -1,12 +1,13 @@
-use borrow.Author.Tests.{ltb-true}
-use Rattle.position.proofs.Ascii.{joined_starts, joined_goes_on, joined_ends}
+use Prim.Native.Nat.{ℕ, ◌-◌, ◌+◌, ◌<◌}
+use mathlib.Core.Path.{◌≡◌}
+use native.Mathlib.Omega.{arith}
+use lib.Seq.{get_or-take, get_or-drop}
+use Rattle.std.proofs.lemmas.List.{length-take}
+use Rattle.position.proofs.Ascii.{joined_goes_on}
 use Rattle.position.proofs.ascii_runs.ascii_block.Goals as goal
 
-pub loop-k-init : goal.loop-k-init
-loop-k-init c = joined_starts _ _
-
-pub loop-k-preserved : goal.loop-k-preserved
-loop-k-preserved c = joined_goes_on _ _ _ _ c.loop-k-test.true c.loop-k.invariant
-
-pub returns : goal.returns
-returns c e = joined_ends _ _ _ _ c.loop-k-test.false c.loop-k.invariant (ltb-true _ _ e)
+pub loop-b-preserved : goal.loop-b-preserved
+loop-b-preserved c =
+    let small : c.loop-b.b-index < 64 = omega (arith, simp length-take at c.loop-b-test.true) in
+    let size : c.args.i + 64 - c.args.i ≡ 64 = omega arith in
+    rw (size, get_or-take {A = ℕ} 64 _ c.loop-b.b-index 0 small, get_or-drop) (joined_goes_on c.args.text.now c.args.i _ _ small c.loop-b.invariant)

@@ -30,9 +30,9 @@ one_more_comment-next-requires c =
 
 pub overflow_cast-item : goal.overflow_cast-item
 overflow_cast-item c =
-    omega (arith, c.span.ensures, line_ends c.requires c.run_end-to.ensures)
+    omega (arith, c.saturating_sub.ensures, line_ends c.requires c.run_end-to.ensures)
 
 pub returns : goal.returns
 returns c =
-    line_reads c.requires c.run_end-to.ensures c.span.ensures c.pos_of-start.ensures
+    line_reads c.requires c.run_end-to.ensures c.saturating_sub.ensures c.pos_of-start.ensures
     c.pos_of-end.ensures (c.one_more_comment-next.ensures ∙ ap one_more_comment c.advance.ensures)

@@ -3,8 +3,8 @@ use mathlib.Core.Path.{sym, ◌∙◌}
 use Rattle.read_string.proofs.MoveLaws.{stop_line, stop_escape, stop_last}
 use Rattle.read_string.proofs.moves.stop_move.Goals as goal
 
-pub returns-in-To : goal.returns-in-To
-returns-in-To c = stop_line _ _ (sym c.match_newline.ensures ∙ c.in-To.is)
+pub returns-in-Some : goal.returns-in-Some
+returns-in-Some c = stop_line _ _ (sym c.match_newline.ensures ∙ c.in-Some.is)
 
 pub returns-in_default-match_escape : goal.returns-in_default-match_escape
 returns-in_default-match_escape c =
@@ -12,4 +12,4 @@ returns-in_default-match_escape c =
 
 pub returns : goal.returns
 returns c =
-    stop_escape _ _ _ (sym c.match_newline.ensures ∙ c.in_default.is) (sym c.match_escape.ensures ∙ c.in-To-match_escape.is) c.escape_move.ensures
+    stop_escape _ _ _ (sym c.match_newline.ensures ∙ c.in_default.is) (sym c.match_escape.ensures ∙ c.in-Some-match_escape.is) c.escape_move.ensures

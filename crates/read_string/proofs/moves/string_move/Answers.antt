@@ -12,4 +12,4 @@ returns-in_default c =
 
 pub returns : goal.returns
 returns c =
-    move_skip _ _ _ c.run_end-j.ensures _ c.if-i-j.false (sym c.broken_line.ensures ∙ c.in-To.is) c.star_anywhite.ensures
+    move_skip _ _ _ c.run_end-j.ensures _ c.if-i-j.false (sym c.broken_line.ensures ∙ c.in-Some.is) c.star_chars.ensures

@@ -29,7 +29,7 @@ pub returns : goal.returns
 returns c =
     surrogate_pair _ _ _
     (sym c.is_high_half.ensures ∙ c.if-not-is_high_half.false)
-    (sym c.match_escape.ensures ∙ c.in-To.is)
+    (sym c.match_escape.ensures ∙ c.in-Some.is)
     c.unescape-low.ensures
     (sym c.is_low_half.ensures ∙ c.if-not-is_low_half.false)
     c.joined.ensures

@@ -17,10 +17,10 @@ pub returns-in-6 : goal.returns-in-6
 returns-in-6 c = λ s name h named. given_at name h named _ _ 6 c.in-6.is (file_line_gives name h named)
 
 pub returns-in-26 : goal.returns-in-26
-returns-in-26 c = λ s name h named. given_at name h named _ _ 26 c.in-26.is (part_gives name h named _ _ c.span.ensures (omega arith))
+returns-in-26 c = λ s name h named. given_at name h named _ _ 26 c.in-26.is (part_gives name h named _ _ c.saturating_sub.ensures (omega arith))
 
 pub returns-in-32 : goal.returns-in-32
-returns-in-32 c = λ s name h named. given_at name h named _ _ 32 c.in-32.is (part_gives name h named _ _ c.span-in-32.ensures (omega arith))
+returns-in-32 c = λ s name h named. given_at name h named _ _ 32 c.in-32.is (part_gives name h named _ _ c.saturating_sub-in-32.ensures (omega arith))
 
 pub returns-in-36 : goal.returns-in-36
 returns-in-36 c = λ s name h named. given_at name h named _ _ 36 c.in-36.is (token_gives name h named _ (token_word c.requires c.in-36.is))

@@ -2,8 +2,8 @@
 use mathlib.Core.Bool.{false≢true}
 use Rattle.utf16_positions.proofs.plain.is_plain.Goals as goal
 
-pub returns-in-Here : goal.returns-in-Here
-returns-in-Here c = λ e. record { here_begun = c.in-Here.is; plain = c.plain_here.ensures e }
+pub returns-in-None : goal.returns-in-None
+returns-in-None c = λ e. record { not_carried = c.in-None.is; plain = c.plain_here.ensures e }
 
-pub returns-in-Carried : goal.returns-in-Carried
-returns-in-Carried c = λ e. absurd (false≢true e)
+pub returns-in-Some : goal.returns-in-Some
+returns-in-Some c = λ e. absurd (false≢true e)
