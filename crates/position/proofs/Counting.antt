@@ -1,16 +1,18 @@
--- The laws of the count and of columns, for any weight: a count is cut at any place, the loop that makes it, the column that goes on
--- from a known one; what a byte counts, by its quotient by 64; and that the count of characters is at most the bytes. Rests on the
+-- The laws of the count and of columns, for any weight: a count is cut at any place, the loops that make it byte by byte and part by part,
+-- the column that goes on from a known one. Those of the count of characters: what a byte counts, by its quotient by 64; that it is at
+-- most the bytes; that a part of the bytes counts by itself what it counts in the whole; that it is a sum over the bytes. Rests on the
 -- definition, and on the laws of cases (crate `lemmas`).
 use Prim.Native.Nat.{ℕ, zero, suc, ◌+◌, ◌-◌, ◌*◌, ◌/◌, ◌%◌, ◌≤◌, ◌<◌}
 use native.Mathlib.Nat.{zero-add, suc-add, add_assoc, add-suc, add-zero}
 use native.Mathlib.Omega.{arith}
 use mathlib.Core.Path.{◌≡◌, refl, sym, ap, ap₂, ◌∙◌}
 use mathlib.Core.Bool.{Bool, true, false}
-use mathlib.Core.List.{[], ◌∷◌, ◌++◌}
+use mathlib.Core.List.{◌++◌}
 use lib.ListN.{length, get_or, take, drop}
-use lib.Seq.{drop-cons}
+use lib.Seq.{drop-cons, drop-drop, get_or-take, get_or-drop, take-append_seam, drop-append_seam}
 use Rattle.std.specs.Prelude.{sum_by}
-use Rattle.std.proofs.lemmas.List.Sums.{sum_by-cons, sum_by-append}
+use Rattle.std.proofs.lemmas.List.{length-append, length-drop}
+use Rattle.std.proofs.lemmas.List.Sums.{sum_by-cons}
 use borrow.Author.Tests.{le-leb, lt-leb}
 use Rattle.definition.specs.Basics.{Bytes}
 use Rattle.definition.specs.Position.{Weight, one_each, is_continuation, weight_at, count_chars, col_by, col_of}
@@ -94,30 +96,76 @@ pub column_small : (s : Bytes) (st : State) (i : ℕ) → col_of s st i ≤ st.c
 unfolding col_by
 column_small s st i = omega (arith, count_small s st.bol (i - st.bol))
 
--- ---- a count made part by part, by any weight (docs/landings/K5.md): n is the count of the bytes from i up to k, and those from k up to j
--- are left
+-- ---- the loops that count, by any weight: n is the count of the bytes from i up to k, and those from k up to j are left
 
 pub record Counting (w : Weight) (s : Bytes) (i j n k : ℕ) : Type 0 where
   pub on : i ≤ k
   pub left : n + count_chars w s k (j - k) ≡ count_chars w s i (j - i)
 
--- it goes on by the bytes from k up to m
-pub counting_goes_to : (w : Weight) (s : Bytes) (i j n k m : ℕ) → k ≤ m → m ≤ j → Counting w s i j n k → Counting w s i j (n + count_chars w s k (m - k)) m
-counting_goes_to w s i j n k m h t c =
+module _ (w : Weight) (s : Bytes) (i j : ℕ) where
+  pub counting_starts : Counting w s i j 0 i
+  counting_starts = record { on = omega arith; left = zero-add (count_chars w s i (j - i)) }
+
+  -- it goes on by the bytes from k up to m
+  pub counting_goes_to : (n k m : ℕ) → k ≤ m → m ≤ j → Counting w s i j n k → Counting w s i j (n + count_chars w s k (m - k)) m
+  counting_goes_to n k m h t c =
+      let l = c.left in
+      let f = c.on in
+      record { on = omega arith; left = omega (arith, count_through w s k m j h t) }
+
+  -- and so by one byte
+  pub counting_goes_on : (n k : ℕ) → k < j → Counting w s i j n k → Counting w s i j (n + weight_at w s k) (k + 1)
+  unfolding count_chars
+  counting_goes_on n k h c =
+      let m : k + 1 - k ≡ 1 = omega arith in
+      let e : count_chars w s k (k + 1 - k) ≡ weight_at w s k = ap (count_chars w s k) m ∙ add-zero (weight_at w s k) in
+      rw e at (counting_goes_to n k (k + 1) (omega arith) (omega arith) c)
+
+  pub counting_ends : (n k : ℕ) → j ≤ k → Counting w s i j n k → n ≡ count_chars w s i (j - i)
+  unfolding count_chars
+  counting_ends n k h c =
+      let m : j - k ≡ 0 = omega arith in
+      let l = c.left in
+      omega (arith, ap (count_chars w s k) m)
+
+-- the count of characters is at most the bytes that were counted
+pub counted_small : (s : Bytes) (i j n k : ℕ) → k ≤ j → Counting one_each s i j n k → n ≤ k - i
+counted_small s i j n k h c =
     let l = c.left in
-    let f = c.on in
-    record { on = omega arith; left = omega (arith, count_through w s k m j h t) }
+    omega (arith, count_through one_each s i k j c.on h, count_small s i (k - i))
 
--- ---- the count as a sum over the bytes
+-- ---- the count within a part of the bytes
 
--- each byte counts one at most
-pub units_small : (l : Bytes) → sum_by unit l ≤ length l
-units_small [] = omega arith
-units_small (b ∷ l) = omega (arith, sum_by-cons unit b l, unit_small b, units_small l)
+-- m bytes from the i-th byte of a part on, of the n bytes from k on, count what they count in the whole
+count_within : (s : Bytes) (k n i m : ℕ) → i + m ≤ n → count_chars one_each (take n (drop k s)) i m ≡ count_chars one_each s (k + i) m
+unfolding count_chars
+count_within s k n i zero h = refl
+count_within s k n i (suc m) h =
+    let byte : get_or (take n (drop k s)) i 0 ≡ get_or s (k + i) 0 = get_or-take n (drop k s) i 0 (omega arith) ∙ get_or-drop k s i 0 in
+    ap₂ (λ (x y : ℕ). x + y)
+    (unit_is (take n (drop k s)) i ∙ ap unit byte ∙ sym (unit_is s (k + i)))
+    (rw add-suc at (count_within s k n (suc i) m (omega arith)))
 
--- what bytes count is what a part of them and those after it count
-pub units_cut : (part rest : Bytes) {l : Bytes} → l ≡ part ++ rest → sum_by unit l ≡ sum_by unit part + sum_by unit rest
-units_cut part rest e = ap (sum_by unit) e ∙ sum_by-append unit part rest
+-- and so the first m bytes of a part
+pub count_in_part : (s : Bytes) (k n m : ℕ) → m ≤ n → count_chars one_each (take n (drop k s)) 0 m ≡ count_chars one_each s k m
+count_in_part s k n m h = rw add-zero at (count_within s k n 0 m (omega arith))
+
+-- a part of m bytes in front of the rest, from k on, counts what m bytes count in the whole
+pub count_of_front : (s : Bytes) (k m : ℕ) (part rest : Bytes) → drop k s ≡ part ++ rest → length part ≡ m → count_chars one_each part 0 (length part) ≡ count_chars one_each s k m
+count_of_front s k m part rest e q =
+    let front : take (length part) (drop k s) ≡ part = ap (take (length part)) e ∙ take-append_seam part rest in
+    rw q (rw front at (count_in_part s k (length part) m (omega arith)))
+
+-- where the rest behind a part begins, and that it is what is left from there on
+pub rest_begins : (s : Bytes) (k : ℕ) (part rest : Bytes) → k ≤ length s → drop k s ≡ part ++ rest → length s - length rest ≡ k + length part
+rest_begins s k part rest h e = omega (arith, simp (length-drop, length-append) at (ap length e))
+
+pub rest_left : (s : Bytes) (k : ℕ) (part rest : Bytes) → k ≤ length s → drop k s ≡ part ++ rest → drop (length s - length rest) s ≡ rest
+rest_left s k part rest h e =
+    rw (rest_begins s k part rest h e)
+    (sym (drop-drop (length part) k s) ∙ ap (drop (length part)) e ∙ drop-append_seam part rest)
+
+-- ---- the count as a sum over the bytes, which is another way to say what `count_part` and `count_parts` answer; no proof cites it
 
 -- the count of the bytes from i on is the sum of what they count
 pub count_units : (s : Bytes) (i n : ℕ) → i + n ≤ length s → count_chars one_each s i n ≡ sum_by unit (take n (drop i s))

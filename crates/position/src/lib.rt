@@ -1,15 +1,16 @@
 // Columns and positions. A column goes on from the last one that is known, so that a line of n bytes costs n bytes of
 // counting over all of its items. Proved: the count is the definition's, and the column of an offset is the
 // definition's from any cache that is right, and the cache afterwards, lent or handed back, is right again. The laws of
-// the count and of columns are stated for any weight per character, and so are those of the characters after an offset
-// (proofs/Skips.antt); the functions count 1 for each.
+// the count, of the loops that make it and of columns are stated for any weight per character, and so are those of the
+// characters after an offset (proofs/Skips.antt); the functions count 1 for each, and so does the law that a part of the
+// bytes counts by itself what it counts in the whole (proofs/Counting.antt).
 // Assumed: nothing but what each function's `requires` says.
 #![tactic(auto)]
 
 pub mod ascii_runs; // ascii_runs.rt: the functions
 pub mod columns; // columns.rt: the columns of a token's ends, without a count where the bytes before them are known to be ASCII
 
-ghost use Rattle.std.specs.Prelude.{◌≡◌, ◌-◌, ◌≤◌, length, sum_by};
+ghost use Rattle.std.specs.Prelude.{◌≡◌, ◌-◌, ◌≤◌, length};
 ghost use Rattle.definition.specs.Position.{count_chars, one_each};
 ghost use Rattle.position.specs.Columns.{unit, Asked, column_at, located};
 
@@ -45,7 +46,7 @@ fn unit(b: u8) -> u8
 // them in one turn of the loop, where it adds up 8 with a sum of 32 bits.
 fn count_part(part: &[u8]) -> u8
     requires { length part.now ≤ 255 }
-    ensures { result ≡ sum_by unit part.now }
+    ensures { result ≡ count_chars one_each part.now 0 (length part.now) }
 {
     let mut n = 0;
     for &b in part {
@@ -56,7 +57,7 @@ fn count_part(part: &[u8]) -> u8
 
 // How many characters start in some bytes, however many those are, part by part.
 fn count_parts(bytes: &[u8]) -> usize
-    ensures { result ≡ sum_by unit bytes.now }
+    ensures { result ≡ count_chars one_each bytes.now 0 (length bytes.now) }
 {
     let mut n = 0;
     for part in bytes.chunks(PART_LENGTH) {

@@ -1,9 +1,8 @@
--- The invariant: what is counted is the sum of the bytes so far.
-use mathlib.Core.Path.{◌≡◌}
-use lib.ListN.{take}
-use Rattle.std.specs.Prelude.{sum_by}
-use Rattle.position.specs.Columns.{unit}
+-- The invariant is `Counting`: what is counted, and that the count of what is left makes it whole.
+use lib.ListN.{length}
+use Rattle.definition.specs.Position.{one_each}
+use Rattle.position.proofs.Counting.{Counting}
 use Rattle.position.proofs.count_part.Given as goal
 
 abbrev pub invariant-loop-b : goal.invariant-loop-b
-invariant-loop-b l = l.n ≡ sum_by unit (take l.b-index l.part)
+invariant-loop-b l = Counting one_each l.part 0 (length l.part) l.n l.b-index
