@@ -117,6 +117,17 @@ module _ (f : Bytes) (l : Laid f) where
 
 -- ---- the ranges of a class, by the chunks of eight bytes that spell them
 
+-- as many ranges are read as are asked for
+pub length_read : (n : ℕ) (l : Bytes) → length (read_ranges n l) ≡ n
+unfolding read_ranges
+length_read zero l = refl
+length_read (suc n) l = ap suc (length_read n (drop 8 l))
+
+-- a class has as many ranges as the header counts
+pub length_ranges : (f : Bytes) (k : ℕ) → length (ranges_of f k) ≡ class_count f k
+unfolding ranges_of
+length_ranges f k = length_read (class_count f k) (drop (class_start f k) f)
+
 -- the first four bytes of a part are those of the whole
 spells_front : (n : ℕ) (l : Bytes) → 4 ≤ n → little_endian (take n l) ≡ little_endian l
 unfolding little_endian

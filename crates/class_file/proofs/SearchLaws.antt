@@ -1,27 +1,24 @@
 -- The search among the ranges of an ascending list: what each step of it leaves, and that its answer is the only range
 -- that can hold the code point. It is stated over any list, so the classes of a file and the built-in table share it.
 -- Rests on what an ascending list says of its ranges. Assumes nothing.
-use Rattle.std.specs.Prelude.{Some, None, is_some, Ok, Err, map}
-use Rattle.std.specs.Result.{result_ok}
-use Rattle.std.specs.Ordering.{ordering_index}
-use Rattle.std.specs.List.Sorted.{IsNonDecreasingBy, IsSearchInRange, IsBinarySearchResult}
+use Rattle.std.specs.Prelude.{Some, None, is_some}
+use Rattle.std.specs.Ordering.{is_lt, is_gt}
 use Rattle.std.specs.declared.cmp.Ordering.{Ordering}
 use Rattle.std.specs.declared.cmp.Ordering.TheVariants.{Less, Equal, Greater}
-use Rattle.std.specs.declared.result.Result.{Result}
-use Rattle.std.proofs.lemmas.List.{length-map, get_or-map}
 use Prim.Native.Nat.{ℕ, zero, suc, ◌+◌, ◌≤◌, ◌<◌, zero-le, suc-le-suc}
 use mathlib.Core.Path.{◌≡◌, refl, sym, ap, ◌∙◌}
 use mathlib.Core.Bool.{Bool, true, false, ◌&&◌}
 use mathlib.Core.List.{List, [], ◌∷◌}
 use mathlib.Core.Logic.{⊎_elim}
 use native.Mathlib.Omega.{arith}
-use native.Mathlib.Nat.{le_refl, le_of_suc-le-suc, not-suc-le-zero, le_trans, zero-add, add-zero, eq-or-lt_of_le}
+use native.Mathlib.Nat.{le_of_suc-le-suc, not-suc-le-zero, le_trans, zero-add, add-zero, eq-or-lt_of_le}
+use native.Mathlib.Numerals.{add-one}
 use lib.Dec.{leb}
-use lib.ListN.{length, get_or}
+use lib.ListN.{length}
 use borrow.Author.Tests.{le-leb, lt-leb, leb-true, leb-false}
 use Rattle.definition.specs.Basics.{between}
 use Rattle.definition.specs.ClassFile.{Range, in_ranges, ascending}
-use Rattle.lemmas.proofs.Cases.{by_bool, by_order, by_lt}
+use Rattle.lemmas.proofs.Cases.{never, by_bool, by_order, by_lt}
 use Rattle.class_file.specs.Ends.{first_at, last_at}
 use Rattle.class_file.proofs.Ranges.{ascending_step, each_legal, apart}
 use Rattle.class_file.specs.Search.{Holds, range_from, range_of, side}
@@ -138,7 +135,16 @@ pub record Narrowed (rs : List Range) (c low high : ℕ) : Type 0 where
   pub before : (i : ℕ) → i < low → last_at rs i < c
   pub after : (i : ℕ) → high ≤ i → i < length rs → c < first_at rs i
 
--- where there are none from low up to high, no range holds it
+-- the search starts with all ranges
+pub narrow_start : (rs : List Range) (c n : ℕ) → n ≡ length rs → Narrowed rs c 0 n
+narrow_start rs c n e = record {
+  in_order = zero-le;
+  within = omega arith;
+  before = λ i h. absurd (not-suc-le-zero h);
+  after = λ i h l. absurd (omega arith);
+}
+
+-- it ends with none where there are none left
 pub narrow_none : (rs : List Range) (c low high : ℕ) → Narrowed rs c low high → high ≤ low → range_of rs c ≡ None
 narrow_none rs c low high w h =
     none_found rs c
@@ -147,61 +153,49 @@ narrow_none rs c low high w h =
     (λ l. omega (arith, w.before i l, k.to))
     (λ l. omega (arith, w.after i (le_trans h l) k.there, k.from)))
 
+module _ {c low high : ℕ} {rs : List Range} (up : ascending 0 rs ≡ true) (w : Narrowed rs c low high) (mid : ℕ) (l : low ≤ mid) (h : mid < high) where
+  -- a range that begins above c, and all after it, can't hold c
+  pub narrow_high : c < first_at rs mid → Narrowed rs c low mid
+  narrow_high p = record {
+    in_order = l;
+    within = omega (arith, w.within);
+    before = w.before;
+    after = λ i q t.
+        ⊎_elim (λ e. rw e at p)
+        (λ m. omega (arith, apart 0 rs up mid i m t, (each_legal 0 rs up mid (omega (arith, w.within))).whole))
+        (eq-or-lt_of_le q);
+  }
+
+  -- nor can a range that ends below c, and all before it
+  pub narrow_low : last_at rs mid < c → Narrowed rs c (mid + 1) high
+  narrow_low p = record {
+    in_order = omega arith;
+    within = w.within;
+    before = λ i q.
+        ⊎_elim (λ e. rw e p)
+        (λ m. omega (arith, apart 0 rs up i mid m (omega (arith, w.within)), (each_legal 0 rs up mid (omega (arith, w.within))).whole))
+        (eq-or-lt_of_le (le_of_suc-le-suc (rw add-one at q)));
+    after = w.after;
+  }
+
+  -- a range that neither begins above c nor ends below it is the answer
+  pub narrow_found : first_at rs mid ≤ c → c ≤ last_at rs mid → range_of rs c ≡ Some mid
+  narrow_found p q = found_only up c mid (record { there = omega (arith, w.within); from = p; to = q })
+
 -- a range's side by its three cases
 side_cases : (r : Range) (c : ℕ) (P : Ordering → Type 0) → (c < r.0 → P Greater) → (r.0 ≤ c → r.1 < c → P Less) → (r.0 ≤ c → c ≤ r.1 → P Equal) → P (side r c)
 side_cases r c P after before around = by_lt P c r.0 after (λ h. by_lt P r.1 c (before h) (around h))
 
 -- what each side says
-side_less : (r : Range) (c : ℕ) → side r c ≡ Less → r.1 < c
-side_less r c = side_cases r c (λ t. t ≡ Less → r.1 < c) (λ h e. cc) (λ h k e. k) (λ h k e. cc)
+pub side_greater : (r : Range) (c : ℕ) → is_gt (side r c) ≡ true → c < r.0
+side_greater r c = side_cases r c (λ t. is_gt t ≡ true → c < r.0) (λ h e. h) (λ h k e. never e) (λ h k e. never e)
 
-side_greater : (r : Range) (c : ℕ) → side r c ≡ Greater → c < r.0
-side_greater r c = side_cases r c (λ t. t ≡ Greater → c < r.0) (λ h e. h) (λ h k e. cc) (λ h k e. cc)
+pub side_less : (r : Range) (c : ℕ) → is_lt (side r c) ≡ true → r.1 < c
+side_less r c = side_cases r c (λ t. is_lt t ≡ true → r.1 < c) (λ h e. never e) (λ h k e. k) (λ h k e. never e)
 
-side_equal : (r : Range) (c : ℕ) → side r c ≡ Equal → (r.0 ≤ c) × (c ≤ r.1)
-side_equal r c = side_cases r c (λ t. t ≡ Equal → (r.0 ≤ c) × (c ≤ r.1)) (λ h e. cc) (λ h k e. cc) (λ h k e. (h, k))
-
--- the sides of two ranges, of which the first ends before the second begins, rise
-sides_apart : (a b : Range) (c : ℕ) → a.0 ≤ a.1 → a.1 < b.0 → ordering_index (side a c) ≤ ordering_index (side b c)
-sides_apart a b c whole apart =
-    side_cases a c (λ s. ordering_index s ≤ ordering_index (side b c))
-    (λ h. side_cases b c (λ s. 2 ≤ ordering_index s) (λ k. le_refl 2) (λ k l. absurd (omega arith)) (λ k l. absurd (omega arith)))
-    (λ h k. zero-le)
-    (λ h k. side_cases b c (λ s. 1 ≤ ordering_index s) (λ l. omega arith) (λ l m. absurd (omega arith)) (λ l m. absurd (omega arith)))
-
--- an element x of a list is searched as the range `ends x`
-module _ {X : Type 0} (ends : X → Range) (xs : List X) (d : X) (c : ℕ) (up : ascending 0 (map ends xs) ≡ true) where
-  -- the range at an index
-  at : (d : X) (i : ℕ) → i < length xs → get_or (map ends xs) i (0, 0) ≡ ends (get_or xs i d)
-  at d i h = get_or-map ends xs i d (0, 0) h
-
-  -- the sides of the ranges rise along the list
-  sides_rise : (d : X) (i j : ℕ) → i ≤ j → j < length xs → ordering_index (side (ends (get_or xs i d)) c) ≤ ordering_index (side (ends (get_or xs j d)) c)
-  sides_rise d i j h k =
-      ⊎_elim (λ e. rw e (le_refl _))
-      (λ l.
-      let m : i < length xs = omega arith in
-      let n : j < length (map ends xs) = rw length-map k in
-      let whole = (each_legal 0 (map ends xs) up i (omega arith)).whole in
-      sides_apart _ _ c (rw (first_at, last_at, at d i m) at whole) (rw (first_at, last_at, at d i m, at d j k) at (apart 0 (map ends xs) up i j l n)))
-      (eq-or-lt_of_le h)
-
-  -- what the library's search answers is the only range that can hold c
-  pub searched : (r : Result ℕ ℕ) → IsSearchInRange r (length xs) → IsBinarySearchResult (λ x. side (ends x) c) xs r
-      → result_ok r ≡ range_of (map ends xs) c
-  searched (Ok i) h s =
-      let holds = side_equal _ c (s d) in
-      sym (found_only up c i (record { there = rw length-map h; from = rw (first_at, at d i h) holds.0; to = rw (last_at, at d i h) holds.1 }))
-  searched (Err i) h s =
-      let sorted : IsNonDecreasingBy (λ x. ordering_index (side (ends x) c)) xs = λ k l e. sides_rise e k l in
-      let parts = s sorted in
-      sym (narrow_none (map ends xs) c i i (record {
-        in_order = le_refl i;
-        within = rw length-map h;
-        before = λ k l.
-            let m : k < length xs = omega arith in
-            rw (last_at, at d k m) (side_less _ c (parts.0 k d zero-le l));
-        after = λ k l m.
-            let n : k < length xs = rw length-map at m in
-            rw (first_at, at d k n) (side_greater _ c (parts.1 k d l n));
-      }) (le_refl i))
+pub side_equal : (r : Range) (c : ℕ) → is_gt (side r c) ≡ false → is_lt (side r c) ≡ false → (r.0 ≤ c) × (c ≤ r.1)
+side_equal r c =
+    side_cases r c (λ t. is_gt t ≡ false → is_lt t ≡ false → (r.0 ≤ c) × (c ≤ r.1))
+    (λ h e. never (sym e))
+    (λ h k e f. never (sym f))
+    (λ h k e f. (h, k))

@@ -1,5 +1,5 @@
-// The letters of a block of 64 code points, a bit for each, for the blocks in which most texts are written: the table of ranges
-// is built anew wherever it is searched, and the constants of a `match` are not.
+// The letters of a block of 64 code points, a bit for each, for the blocks in which most texts are written: the bits are a
+// shortcut, which saves the search of the table of ranges.
 ghost use Rattle.lowercase.specs.Blocks.{Tells};
 
 // The blocks of some scripts that have no small letters, of punctuation, and of mathematical operators.

@@ -13,16 +13,14 @@ ghost use Rattle.class_file.specs.Search.{range_of};
 
 use crate::blocks::block_letters;
 use crate::ll_table::LL;
-use class_file::members::side;
+use class_file::members::search;
 
 // The range of the table that holds c.
 pub fn find_ll(c: u32) -> Option<usize>
     ensures { result ≡ range_of ll_tbl c }
 {
     let (ranges, _) = LL.as_chunks::<2>();
-    ranges
-        .binary_search_by(|range| side((range[0], range[1]), c))
-        .ok()
+    search(ranges, c)
 }
 
 // Whether c is a letter: where its block tells, the table is not searched.
