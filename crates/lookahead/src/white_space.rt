@@ -11,7 +11,7 @@ use match_lit::byte_either;
 use matchers::match_newline;
 use reader::Cursor;
 use reader::cursors::{moved, next_line};
-use star::tests::White;
+use star::tests::{Blank, White};
 use star::{passes_at, star_chars};
 
 // The cursor after one run of white space or one line end, if one stands there.
@@ -21,8 +21,8 @@ fn past_white(text: &[u8], classes: &[u8], at: Cursor) -> Option<Cursor>
 {
     let st = at.st;
     let i = st.offset as usize;
-    let white = White { file: classes };
-    if passes_at(text, white, i) {
+    if passes_at(text, Blank, i) {
+        let white = White { file: classes };
         return Some(moved(at, star_chars(text, white, i + 1)));
     }
     if !byte_either(text, i, b'\n', b'\r') {

@@ -151,14 +151,14 @@ module _ (p : ℕ → Bool) (small : Small p) (s : Bytes) (i : ℕ) where
 -- Of ASCII, q passes what p does, and nothing else.
 module _ {p q : ℕ → Bool} (small : Small q) (agree : (c : ℕ) → c < 0x80 → p c ≡ q c) (s : Bytes) where
   -- What passes q is passed over.
-  ascii_on : (j : ℕ) → byte_has q s j ≡ true → star p s j ≡ star p s (j + 1)
+  pub ascii_on : (j : ℕ) → byte_has q s j ≡ true → star p s j ≡ star p s (j + 1)
   ascii_on j t =
       let b = byte_passes q s j t in
       let c = get_or s j 0 in
       run_on p s j (one_yes p s j (ascii_at s j b.0 (small c b.1)) (agree c (small c b.1) ∙ b.1))
 
   -- At another character of ASCII, and at the text's end, the run ends.
-  ascii_stops : (j : ℕ) → byte_has q s j ≡ false → byte_has (λ b. leb 0x80 b) s j ≡ false → star p s j ≡ j
+  pub ascii_stops : (j : ℕ) → byte_has q s j ≡ false → byte_has (λ b. leb 0x80 b) s j ≡ false → star p s j ≡ j
   ascii_stops j t u =
       by_order j (length s)
       (λ l.

@@ -4,13 +4,15 @@
 // Assumed: nothing.
 ghost use Rattle.std.specs.Prelude.{◌≡◌};
 ghost use Rattle.definition.specs.Text.{star, after};
+ghost use Rattle.star.specs.Beyond.{Beyond};
 ghost use Rattle.star.specs.Stops.{goes_on, ascii_goes_on};
 ghost use Rattle.star.specs.TestLaws.{small_goes_on, ascii_inside};
 
-use crate::star_chars;
 use crate::tests::{AsciiTest, CharTest};
+use crate::{one_char, star_ascii};
 use chars::fixed::is_newline_char;
 use definition::Sequence;
+use match_lit::beyond_ascii_at;
 use utf8::sequence_at;
 
 // A character that is neither `first` nor `second` nor a line's end.
@@ -40,7 +42,25 @@ impl CharTest for Inside {
     }
 }
 
-// The end of the run of characters from i that are neither a nor b nor a line's end.
+// Where the characters beyond ASCII end that stand at i and are inside a run, one after the other. A function by itself: what it needs
+// for a call of the decoder would be moved to and fro in the loop over ASCII.
+#[inline(never)]
+fn inside_beyond(text: &[u8], inside: Inside, i: usize) -> usize
+    ensures { Beyond (goes_on inside.first inside.second) text.now i result }
+{
+    let mut at = i;
+    while beyond_ascii_at(text, at) {
+        let Some(next) = one_char(text, inside, at) else {
+            return at;
+        };
+        at = next;
+    }
+    at
+}
+
+// The end of the run of characters from i that are neither a nor b nor a line's end: the ASCII by bytes, what is beyond it character by
+// character. In place at each call, where a and b are known, so that the loop over ASCII asks for nothing twice.
+#[inline(always)]
 pub fn run_end(text: &[u8], a: u8, b: u8, i: usize) -> usize
     ensures { result ≡ star (goes_on a b) text.now i }
 {
@@ -48,7 +68,15 @@ pub fn run_end(text: &[u8], a: u8, b: u8, i: usize) -> usize
         first: a,
         second: b,
     };
-    star_chars(text, inside, i)
+    let mut j = star_ascii(text, inside, i);
+    while beyond_ascii_at(text, j) {
+        let k = inside_beyond(text, inside, j);
+        if beyond_ascii_at(text, k) {
+            return k;
+        }
+        j = star_ascii(text, inside, k);
+    }
+    j
 }
 
 // The offset after the character at i; i itself where none stands.

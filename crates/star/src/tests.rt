@@ -154,6 +154,20 @@ impl<'a> CharTest for IdentChar<'a> {
 
 // ---- white space, which in ASCII is space, tab, vertical tab and form feed
 
+// The white space of ASCII, for which no class file is asked.
+#[derive(Clone, Copy)]
+pub struct Blank;
+
+impl AsciiTest for Blank {
+    ghost test = { λ _. is_blank };
+
+    ghost small = { λ _. small_blank };
+
+    fn passes(self, b: u8) -> bool {
+        matches!(b, b' ' | b'\t' | 11 | 12)
+    }
+}
+
 #[derive(Clone, Copy)]
 pub struct White<'a> {
     pub file: &'a [u8],
@@ -166,7 +180,7 @@ impl<'a> AsciiTest for White<'a> {
     ghost small = { λ _. small_blank };
 
     fn passes(self, b: u8) -> bool {
-        matches!(b, b' ' | b'\t' | 11 | 12)
+        Blank.passes(b)
     }
 }
 
