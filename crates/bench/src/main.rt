@@ -11,7 +11,9 @@
 
 use definition::answers::{RunRefusal, Stop};
 use either_run::Saved;
-use inputs::{CLASSES, PAYLOAD, RECORDS, TEXT, buffer, least, read_classes, read_full};
+use inputs::{
+    class_buffer, least, payload_buffer, read_classes, read_full, record_buffer, text_buffer,
+};
 use std::env::{Env, FillError};
 use std::io;
 
@@ -107,10 +109,10 @@ fn say(rt: &impl Print, n: u64) -> io::Result<()> {
 }
 
 fn main(rt: HostRuntime) -> io::Result<()> {
-    let mut text: [u8; TEXT] = buffer(0);
-    let mut records: [u32; RECORDS] = buffer(0);
-    let mut payload: [u8; PAYLOAD] = buffer(0);
-    let mut classes: [u8; CLASSES] = buffer(0);
+    let mut text = text_buffer();
+    let mut records = record_buffer();
+    let mut payload = payload_buffer();
+    let mut classes = class_buffer();
     let mut input = rt.reader();
     let length = read_full(&mut input, &mut text)?;
     let size = read_classes(&rt, &mut classes)?;

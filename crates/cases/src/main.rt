@@ -34,10 +34,9 @@ mod print; // print.rt: the lines
 ghost use Rattle.std.specs.Prelude.{◌≡◌, None, IfOk, IfSome};
 ghost use Rattle.cases.specs.Parts.{Within};
 
-use definition::answers::StartRefusal;
 use definition::{Pos, State, Utf16State};
-use either_run::Saved;
-use inputs::{PARTS, PAYLOAD, RECORDS, buffer, read_full};
+use either_run::{Saved, Started, answer_of, start_of, utf16_start_of};
+use inputs::{parts_buffer, payload_buffer, read_full, record_buffer};
 use print::{print_numbers, print_payload, print_records, say};
 use std::io;
 use std::io::{Read, Write};
@@ -124,36 +123,23 @@ fn print_state<W: Write>(out: &mut W, state: Saved) -> io::Result<()> {
     say(out, b"\n")
 }
 
-// The case and the number of a start's answer, and its state, which is zeros where the start is refused.
-fn print_start<W: Write>(
-    out: &mut W,
-    case: u32,
-    begun: Result<Saved, StartRefusal>,
-    zeros: Saved,
-) -> io::Result<()> {
-    match begun {
-        Ok(state) => {
-            print_numbers(out, &[case, 0])?;
-            print_state(out, state)
-        }
-        Err(refusal) => {
-            print_numbers(out, &[case, refusal.number()])?;
-            print_state(out, zeros)
-        }
-    }
+// The case and the numbers of a start's answer.
+fn print_start<W: Write>(out: &mut W, case: u32, answer: Started) -> io::Result<()> {
+    print_numbers(out, &[case, answer.refusal])?;
+    print_state(out, answer.state)
 }
 
 // Start takes the line and the line-start column of the state.
 fn answer_start<W: Write>(out: &mut W, n: [u32; 18]) -> io::Result<()> {
-    let begun = lexer::start(n[3], n[5]).map(Saved::Characters);
+    let answer = start_of(lexer::start(n[3], n[5]));
     say(out, b"start")?;
-    print_start(out, n[1], begun, Saved::Characters(State::default()))
+    print_start(out, n[1], answer)
 }
 
 fn answer_utf16_start<W: Write>(out: &mut W, n: [u32; 18]) -> io::Result<()> {
-    let begun = lexer::utf16::start(n[3], n[5]).map(Saved::Utf16);
+    let answer = utf16_start_of(lexer::utf16::start(n[3], n[5]));
     say(out, b"utf16-start")?;
-    print_start(out, n[1], begun, Saved::Utf16(Utf16State::default()))
+    print_start(out, n[1], answer)
 }
 
 fn answer_class_check<W: Write>(out: &mut W, case: u32, classes: &[u8]) -> io::Result<()> {
@@ -187,18 +173,12 @@ fn answer_run<W: Write>(
     records.fill(print::FILL_NUMBER);
     payload.fill(print::FILL_BYTE);
     let given = state_of(n);
-    let answer = either_run::run(text, name, classes, given, records, payload);
-    say_run(out, given)?;
-    match answer {
-        Ok(ran) => {
-            print_numbers(out, &[n[1], 0, 0, ran.stop.number(), ran.count])?;
-            print_state(out, ran.state)?;
-        }
-        Err(refusal) => {
-            print_numbers(out, &[n[1], refusal.number(), refusal.offset(), 0, 0])?;
-            print_state(out, given)?;
-        }
-    }
+    let ran = either_run::run(text, name, classes, given, records, payload);
+    let answer = answer_of(given, ran);
+    say_run(out, answer.state)?;
+    print_numbers(out, &[n[1], answer.refusal, answer.offset])?;
+    print_numbers(out, &[answer.stop, answer.count])?;
+    print_state(out, answer.state)?;
     print_records(out, records)?;
     print_payload(out, payload)
 }
@@ -308,9 +288,9 @@ fn answer_all<R: Read, W: Write>(
 }
 
 fn main(rt: HostRuntime) -> io::Result<()> {
-    let mut bytes: [u8; PARTS] = buffer(0);
-    let mut records: [u32; RECORDS] = buffer(0);
-    let mut payload: [u8; PAYLOAD] = buffer(0);
+    let mut bytes = parts_buffer();
+    let mut records = record_buffer();
+    let mut payload = payload_buffer();
     let mut input = rt.reader();
     answer_all(
         &mut input,

@@ -12,7 +12,7 @@ ghost use Rattle.select.specs.Standing.{Lent};
 
 use definition::answers::RunRefusal;
 use definition::{Choice, Sequence};
-use inputs::{CLASSES, SHORT_TEXT, buffer, read_classes, read_full};
+use inputs::{class_buffer, read_classes, read_full, short_text_buffer};
 use std::io;
 use std::io::Write;
 
@@ -74,8 +74,8 @@ fn choices<W: Write>(out: &mut W, text: &[u8], file: &[u8]) -> io::Result<()> {
 }
 
 fn main(rt: HostRuntime) -> io::Result<()> {
-    let mut text: [u8; SHORT_TEXT] = buffer(0);
-    let mut file: [u8; CLASSES] = buffer(0);
+    let mut text = short_text_buffer();
+    let mut file = class_buffer();
     let mut input = rt.reader();
     let length = read_full(&mut input, &mut text)?;
     let size = read_classes(&rt, &mut file)?;

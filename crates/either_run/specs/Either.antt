@@ -1,13 +1,16 @@
 -- A run of either kind, from a saved state that says which.
 -- s is the text, name the file's name, f the class file; rs and ps are the buffers as they were lent.
 use Rattle.std.specs.Prelude.{ℕ, List, length}
-use Rattle.definition.specs.Answers.{RunAnswer}
+use Rattle.definition.specs.Answers.{StartAnswer, RunAnswer}
 use Rattle.definition.specs.Basics.{Bytes}
 use Rattle.definition.specs.Item.{Step}
 use Rattle.definition.specs.Items.{steps_of}
 use Rattle.definition.specs.Run.{Outcome, refusal, run}
 use Rattle.definition.specs.Utf16.{utf16, second_steps, utf16_refusal, Utf16Outcome, utf16_run}
 use Rattle.definition.specs.declared.State.{State}
+use Rattle.definition.specs.declared.Utf16State.{Utf16State}
+use Rattle.either_run.specs.declared.Answer.{Answer}
+use Rattle.either_run.specs.declared.Started.{Started}
 use Rattle.either_run.specs.declared.Saved.{Saved}
 use Rattle.either_run.specs.declared.Saved.TheVariants.{Characters, Utf16}
 
@@ -15,6 +18,20 @@ use Rattle.either_run.specs.declared.Saved.TheVariants.{Characters, Utf16}
 abbrev pub first_of : Saved → State
 first_of (Characters st) = st
 first_of (Utf16 g) = g.first
+
+-- what a start's numbers are
+abbrev pub start_numbers : Started → StartAnswer Saved
+start_numbers r = record { refusal = r.refusal; state = r.state }
+
+abbrev pub first_start : StartAnswer State → StartAnswer Saved
+first_start a = record { refusal = a.refusal; state = Characters a.state }
+
+abbrev pub second_start : StartAnswer Utf16State → StartAnswer Saved
+second_start a = record { refusal = a.refusal; state = Utf16 a.state }
+
+-- what an answer's numbers are
+abbrev pub numbers : Answer → RunAnswer Saved
+numbers r = record { refusal = r.refusal; offset = r.offset; stop = r.stop; count = r.count; state = r.state }
 
 -- the answer, and both buffers
 abbrev pub EitherOutcome : Type 0

@@ -6,10 +6,12 @@
 #![tactic(auto)]
 
 ghost use Rattle.std.specs.Prelude.{◌≡◌};
-ghost use Rattle.definition.specs.Answers.{run_said};
-ghost use Rattle.either_run.specs.Either.{either_run};
+ghost use Rattle.definition.specs.Answers.{start_said, run_said};
+ghost use Rattle.definition.specs.State.{nine_zeros};
+ghost use Rattle.definition.specs.Utf16.{utf16_zeros};
+ghost use Rattle.either_run.specs.Either.{either_run, start_numbers, first_start, second_start, numbers};
 
-use definition::answers::{Ran, RunRefusal};
+use definition::answers::{Ran, RunRefusal, StartRefusal};
 use definition::{State, Utf16State};
 
 // The saved state of a run whose positions count characters, or UTF-16 units.
@@ -17,6 +19,77 @@ use definition::{State, Utf16State};
 pub enum Saved {
     Characters(State),
     Utf16(Utf16State),
+}
+
+// What a start answers, in document 01's numbers: a refusal's number with a state of zeros, or 0 with the state.
+#[derive(Clone, Copy)]
+pub struct Started {
+    pub refusal: u32,
+    pub state: Saved,
+}
+
+// The numbers of what the first run's start answered.
+pub fn start_of(begun: Result<State, StartRefusal>) -> Started
+    ensures { start_numbers result ≡ first_start (start_said nine_zeros begun) }
+{
+    match begun {
+        Ok(state) => Started {
+            refusal: 0,
+            state: Saved::Characters(state),
+        },
+        Err(refusal) => Started {
+            refusal: refusal.number(),
+            state: Saved::Characters(State::default()),
+        },
+    }
+}
+
+// Those of the second run's.
+pub fn utf16_start_of(begun: Result<Utf16State, StartRefusal>) -> Started
+    ensures { start_numbers result ≡ second_start (start_said utf16_zeros begun) }
+{
+    match begun {
+        Ok(state) => Started {
+            refusal: 0,
+            state: Saved::Utf16(state),
+        },
+        Err(refusal) => Started {
+            refusal: refusal.number(),
+            state: Saved::Utf16(Utf16State::default()),
+        },
+    }
+}
+
+// What a run answers, in document 01's numbers. Any may stand in it: who lists or prints an answer takes them as they are.
+#[derive(Clone, Copy)]
+pub struct Answer {
+    pub refusal: u32,
+    pub offset: u32,
+    pub stop: u32,
+    pub count: u32,
+    pub state: Saved,
+}
+
+// The numbers of what a run from a saved state answered: a refusal hands that state back, with no items and stop 0.
+pub fn answer_of(from: Saved, ran: Result<Ran<Saved>, RunRefusal>) -> Answer
+    ensures { numbers result ≡ run_said from ran }
+{
+    match ran {
+        Ok(ran) => Answer {
+            refusal: 0,
+            offset: 0,
+            stop: ran.stop.number(),
+            count: ran.count,
+            state: ran.state,
+        },
+        Err(refusal) => Answer {
+            refusal: refusal.number(),
+            offset: refusal.offset(),
+            stop: 0,
+            count: 0,
+            state: from,
+        },
+    }
 }
 
 // A text's items from a saved state on, written into the lent buffers as far as they have room, or a refusal.

@@ -5,9 +5,10 @@
 // Assumed: nothing. What the system gives to read no contract says; a read that fails is an error, and never the end.
 #![tactic(auto)]
 
-ghost use Rattle.std.specs.Prelude.{◌≡◌, ℕ, min, ◌<◌, List, length, take, Option, Ok, IfOk, OnErr};
+ghost use Rattle.std.specs.Prelude.{◌≡◌, ℕ, min, ◌*◌, ◌<◌, List, length, take, Option, Ok, IfOk, OnErr};
 ghost use Rattle.std.specs.Io.{ReadsAtMost};
 ghost use Rattle.std.specs.Io.KnownBytes.{Consumes, IsAtEnd};
+ghost use Rattle.definition.specs.Item.{record_size};
 
 use definition::RECORD;
 use std::fs::Files;
@@ -38,6 +39,45 @@ pub fn buffer<T: Copy, const N: usize>(fill: T) -> [T; N]
     ensures { N ≡ length result }
 {
     [fill; N]
+}
+
+// The buffers that the programs read into and lend, each with its length as a number: what a text, a class file or a frame needs hangs on
+// it.
+
+pub fn text_buffer() -> [u8; TEXT]
+    ensures { 1048577 ≡ length result }
+{
+    buffer(0)
+}
+
+pub fn short_text_buffer() -> [u8; SHORT_TEXT]
+    ensures { 65536 ≡ length result }
+{
+    buffer(0)
+}
+
+pub fn class_buffer() -> [u8; CLASSES]
+    ensures { 65537 ≡ length result }
+{
+    buffer(0)
+}
+
+pub fn parts_buffer() -> [u8; PARTS]
+    ensures { 1118211 ≡ length result }
+{
+    buffer(0)
+}
+
+pub fn record_buffer() -> [u32; RECORDS]
+    ensures { 65536 * record_size ≡ length result }
+{
+    buffer(0)
+}
+
+pub fn payload_buffer() -> [u8; PAYLOAD]
+    ensures { 1052672 ≡ length result }
+{
+    buffer(0)
 }
 
 // Reads until the buffer is full or the input ends, and answers how many bytes came. The only error is the reader's own; the

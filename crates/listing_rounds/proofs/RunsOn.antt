@@ -1,18 +1,13 @@
 -- Runs of either kind one after another: each that isn't the last writes an item, and leaves fewer to come. Rests on what one run has done
 -- (EitherRuns).
-use Rattle.std.specs.Prelude.{Result, Ok, Err, IfOk}
+use Rattle.std.specs.Prelude.{Result, Ok, Err}
 use Prim.Native.Nat.{ℕ, ◌+◌, ◌≤◌}
 use mathlib.Core.Path.{◌≡◌, refl, sym, ap, subst, ◌∙◌}
 use mathlib.Core.List.{List}
 use native.Mathlib.Omega.{arith}
 use lib.ListN.{length, length-append}
-use Rattle.definition.specs.Answers.{RunAnswer, run_number, run_said, stop_number}
-use Rattle.definition.specs.declared.answers.Ran.{Ran}
-use Rattle.definition.specs.declared.answers.Stop.{Stop}
-use Rattle.definition.specs.declared.answers.Stop.TheVariants.{End, RecordsFull, PayloadFull}
-use Rattle.definition.specs.declared.answers.RunRefusal.{RunRefusal}
+use Rattle.definition.specs.Answers.{RunAnswer}
 use Rattle.definition.specs.Basics.{Bytes}
-use Rattle.definition.proofs.Refusals.{run_refused}
 use Rattle.laws_run.specs.Left.{left}
 use Rattle.either_run.specs.Either.{first_of, EitherOutcome, either_run, either_refusal, either_items}
 use Rattle.either_run.specs.declared.Saved.{Saved}
@@ -32,15 +27,15 @@ run_did s name f from rs ps z = either_did s name f rs ps from (run_taken s name
 
 -- ---- one round
 
+-- an answer's numbers are those of its outcome
+pub said_is : {o : EitherOutcome} {r said : RunAnswer Saved} {rs : List ℕ} {ps : Bytes} → r ≡ said → ◌≡◌ {A = EitherOutcome} (said, rs, ps) o
+    → ◌≡◌ {A = EitherOutcome} (r, rs, ps) o
+said_is e q = rw e q
+
 -- what is told of a run's answer and records is told of its outcome
-pub round_is : (o : EitherOutcome) (before : Bytes) (x : Result Round RunRefusal) (after : Bytes) {r : RunAnswer Saved} {rs : List ℕ} {ps : Bytes}
+pub round_is : (o : EitherOutcome) (before : Bytes) (x : Result Round ℕ) (after : Bytes) {r : RunAnswer Saved} {rs : List ℕ} {ps : Bytes}
     → ◌≡◌ {A = EitherOutcome} (r, rs, ps) o → Told r rs before x after → Rounded o before x after
 round_is o before x after e t = subst (λ (y : EitherOutcome). Rounded y before x after) e t
-
--- what refuses a run is told, and the buffer is as it was
-pub round_refused : (from : Saved) (refusal : RunRefusal) (rs : List ℕ) (before : Bytes) → Told (run_said from (Err refusal)) rs before (Err refusal) before
-unfolding Told
-round_refused from refusal rs before = record { refusal = refl; some = run_refused refusal; same = refl }
 
 -- there is room for the lines of a run's items
 pub round_room : (s name f : Bytes) (from : Saved) (rs : List ℕ) (ps : Bytes) {r : RunAnswer Saved} {rs' : List ℕ} {ps' out : Bytes}
@@ -50,18 +45,6 @@ round_room s name f from rs ps e z l k =
     let d = run_did s name f from rs ps (ap (λ (x : RunAnswer Saved). x.refusal) (sym a) ∙ z) in
     let c = ap (λ (x : RunAnswer Saved). x.count) a ∙ d.count in
     record { records = omega (arith, d.fits, c, k); lines = omega (arith, d.fits, c, l.records, l.lines) }
-
-pub room_of : (s name f : Bytes) (from : Saved) (rs : List ℕ) (ps : Bytes) (a : Result (Ran Saved) RunRefusal) {rs' : List ℕ} {ps' out : Bytes}
-    → ◌≡◌ {A = EitherOutcome} (run_said from a, rs', ps') (either_run s name f from rs ps) → Lent rs ps out → length rs' ≡ length rs
-    → IfOk a (λ ran. Room rs' ran.count out)
-room_of s name f from rs ps (Ok ran) e l k = round_room s name f from rs ps e refl l k
-room_of s name f from rs ps (Err refusal) e l k = tt
-
--- a run that stops with 0 came to the end
-pub stopped_at_end : (stop : Stop) → stop_number stop ≡ 0 → stop ≡ End
-stopped_at_end End e = refl
-stopped_at_end RecordsFull e = absurd (omega arith)
-stopped_at_end PayloadFull e = absurd (omega arith)
 
 -- ---- the rounds
 
@@ -96,8 +79,8 @@ module _ {s name f : Bytes} {from₀ : Saved} {rs₀ : List ℕ} {ps₀ out₀ :
   o = either_run s name f from rs ps
 
   -- a round that is refused ends the listing so
-  pub ends_refused : (refusal : RunRefusal) {out' : Bytes} → Refuses o.0 out (run_number refusal) out' → Ends s name f from₀ (Err refusal)
-  ends_refused refusal r = (sym r.refusal ∙ refusal_is s name f rs ps from ∙ g.refuses, r.some)
+  pub ends_refused : {number : ℕ} {out' : Bytes} → Refuses o.0 out number out' → Ends s name f from₀ (Err number)
+  ends_refused r = (sym r.refusal ∙ refusal_is s name f rs ps from ∙ g.refuses, r.some)
 
   module _ {out' : Bytes} {next : Saved} {bytes items stop : ℕ} (l : Lists o.0 o.1 out bytes items stop next out') where
     d : Did s name f from rs ps o

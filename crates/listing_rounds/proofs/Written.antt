@@ -4,7 +4,6 @@ use Rattle.std.proofs.lemmas.List.{append-nil}
 use Rattle.std.proofs.Math.Seq.{take-append_seam}
 use Rattle.std.proofs.KnownBytes.{Appends-nil, Appends-trans}
 use Rattle.std.specs.Io.KnownBytes.{Appends}
-use Rattle.definition.specs.declared.answers.RunRefusal.{RunRefusal}
 use Rattle.definition.specs.Basics.{Bytes}
 use Rattle.lemmas.specs.Over.{Wrote, over}
 use Rattle.either_run.specs.Either.{either_run, either_refusal}
@@ -32,8 +31,8 @@ written_none s name f from a = record { bytes = []; taken = Appends-nil a; rest 
 
 module _ {s name f : Bytes} {from₀ from : Saved} {a b : Option (List ℕ)} (w : Written s name f from₀ from a b) where
   -- a listing that ends with a refusal has written nothing
-  pub written_refused : (refusal : RunRefusal) → Ends s name f from₀ (Err refusal) → Appends a b []
-  written_refused refusal e = subst (Appends a b) (w.silent (λ z. e.1 (e.0 ∙ z))) w.taken
+  pub written_refused : (number : ℕ) → Ends s name f from₀ (Err number) → Appends a b []
+  written_refused number e = subst (Appends a b) (w.silent (λ z. e.1 (e.0 ∙ z))) w.taken
 
   module _ (rs : List ℕ) (ps : Bytes) {out out' : Bytes} {next : Saved} {bytes items stop : ℕ}
       (l : Lists (either_run s name f from rs ps).0 (either_run s name f from rs ps).1 out bytes items stop next out')

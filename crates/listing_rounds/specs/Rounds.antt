@@ -1,7 +1,6 @@
 -- What a listing's runs are lent, where they begin, and what a round of the listing, one run, promises.
 use Rattle.std.specs.Prelude.{ℕ, ◌*◌, ◌≤◌, ◌≡◌, List, [], ◌∷◌, ◌++◌, length, codes, decimal, Result, Ok, Err}
-use Rattle.definition.specs.Answers.{RunAnswer, run_number, stop_number}
-use Rattle.definition.specs.declared.answers.RunRefusal.{RunRefusal}
+use Rattle.definition.specs.Answers.{RunAnswer}
 use Rattle.definition.specs.Basics.{Bytes}
 use Rattle.definition.specs.State.{started}
 use Rattle.definition.specs.Item.{Step, record_size, words}
@@ -41,12 +40,12 @@ pub record Lists (r : RunAnswer Saved) (rs : List ℕ) (before : Bytes) (bytes i
   pub written : Wrote (lines r.count rs) before after bytes
 
 -- what is told of a run with the answer r and the records rs, and left in the buffer
-unfoldable pub Told : RunAnswer Saved → List ℕ → Bytes → Result Round RunRefusal → Bytes → Type 0
-Told r rs before (Err refusal) after = Refuses r before (run_number refusal) after
-Told r rs before (Ok x) after = Lists r rs before x.bytes x.items (stop_number x.stop) x.next after
+unfoldable pub Told : RunAnswer Saved → List ℕ → Bytes → Result Round ℕ → Bytes → Type 0
+Told r rs before (Err number) after = Refuses r before number after
+Told r rs before (Ok x) after = Lists r rs before x.bytes x.items x.stop x.next after
 
 -- what a round answers, and leaves in the buffer
-abbrev pub Rounded : EitherOutcome → Bytes → Result Round RunRefusal → Bytes → Type 0
+abbrev pub Rounded : EitherOutcome → Bytes → Result Round ℕ → Bytes → Type 0
 Rounded o = Told o.0 o.1
 
 -- the lines of items; word 6, which no line shows, is 0 here
@@ -58,13 +57,13 @@ lines_of (t ∷ ts) = line (words t.item 0) ++ lines_of ts
 abbrev pub listing : Bytes → Bytes → Bytes → Saved → Bytes
 listing s name f from = lines_of (either_items s name f from)
 
--- how a listing ends: with the refusal of a run, or with the count of all items
+-- how a listing ends: with the number of a refusal, or with the count of all items
 abbrev pub Ending : Type 0
-Ending = Result ℕ RunRefusal
+Ending = Result ℕ ℕ
 
 -- how a listing from a state on ends
 abbrev pub Ends : Bytes → Bytes → Bytes → Saved → Ending → Type 0
-Ends s name f from (Err refusal) = (run_number refusal ≡ either_refusal s name f from) × (run_number refusal ≡ 0 → ⊥)
+Ends s name f from (Err number) = (number ≡ either_refusal s name f from) × (number ≡ 0 → ⊥)
 Ends s name f from (Ok count) = (either_refusal s name f from ≡ 0) × (count ≡ length (either_items s name f from))
 
 -- a line of a word and a number
@@ -73,10 +72,10 @@ told word number = word ++ (codes " " ++ (decimal number ++ codes "\n"))
 
 -- what a listing that ends so writes before its last line: nothing where it is refused
 abbrev pub before_last : Bytes → Bytes → Bytes → Saved → Ending → Bytes
-before_last s name f from (Err refusal) = []
+before_last s name f from (Err number) = []
 before_last s name f from (Ok count) = listing s name f from
 
 -- its last line
 abbrev pub last_line : Ending → Bytes
-last_line (Err refusal) = told (codes "REFUSED") (run_number refusal)
+last_line (Err number) = told (codes "REFUSED") number
 last_line (Ok count) = told (codes "END") count

@@ -18,9 +18,9 @@ ghost use Rattle.either_run.specs.Either.{either_run};
 ghost use Rattle.listing_rounds.specs.Rounds.{AtFirst, Lent, Begun, Rounded, Ending, Ends, told, before_last, last_line};
 
 use definition::answers::{RunRefusal, Stop};
-use either_run::{Saved, run};
-use inputs::{CLASSES, SHORT_TEXT, buffer, read_classes, read_full};
-use rounds::{LINES, PAYLOAD, RECORDS, Round, round_of, too_long};
+use either_run::{Saved, answer_of, run};
+use inputs::{class_buffer, read_classes, read_full, short_text_buffer};
+use rounds::{Round, line_buffer, payload_buffer, record_buffer, round_of, too_long};
 use std::fs::Files;
 use std::io;
 use std::io::Write;
@@ -40,13 +40,16 @@ fn run_once(
     records: &mut [u32],
     payload: &mut [u8],
     out: &mut [u8],
-) -> Result<Round, RunRefusal>
+) -> Result<Round, u32>
     requires { Lent records.old payload.old out.old }
     ensures { Rounded (either_run text.now (cps "stdin") classes.now from records.old payload.old) out.old result out.new }
 {
-    let answer = run(text, b"stdin", classes, from, records, payload);
-    round_of(answer, records, out)
+    let ran = run(text, b"stdin", classes, from, records, payload);
+    round_of(answer_of(from, ran), records, out)
 }
+
+// Why a run stopped: it came to the end.
+const AT_END: u32 = Stop::End as u32;
 
 // Runs on from a state until the end, and writes the lines of each run at once. Only the first run can be refused, since the
 // state that a run hands back is taken again. Each run but the last writes an item, since both buffers are free again and have
@@ -60,7 +63,7 @@ fn list_from<W: Write>(
     records: &mut [u32],
     payload: &mut [u8],
     out: &mut [u8],
-) -> io::Result<Result<u64, RunRefusal>>
+) -> io::Result<Result<u64, u32>>
     requires { Begun text.now begun × Lent records.old payload.old out.old }
     ensures ends { IfOk result (Ends text.now (cps "stdin") classes.now begun) }
     ensures lines { IfOk result (λ ending. Appends (W.contents to.old) (W.contents to.new) (before_last text.now (cps "stdin") classes.now begun ending)) }
@@ -80,7 +83,7 @@ fn list_from<W: Write>(
             ) => {
                 to.write_all(&out[..bytes])?;
                 listed += items as u64;
-                if stop == Stop::End {
+                if stop == AT_END {
                     return Ok(Ok(listed));
                 }
                 from = next;
@@ -90,11 +93,11 @@ fn list_from<W: Write>(
 }
 
 // The last line.
-fn say_ending<W: Write>(to: &mut W, ending: Result<u64, RunRefusal>) -> io::Result<()>
+fn say_ending<W: Write>(to: &mut W, ending: Result<u64, u32>) -> io::Result<()>
     ensures { OnOk result (Appends (W.contents to.old) (W.contents to.new) (last_line ending)) }
 {
     match ending {
-        Err(refusal) => say(to, "REFUSED", refusal.number() as u64),
+        Err(refusal) => say(to, "REFUSED", refusal as u64),
         Ok(items) => say(to, "END", items),
     }
 }
@@ -107,11 +110,11 @@ pub fn list<W: Write>(to: &mut W, text: &[u8], classes: &[u8], begun: Saved) -> 
         × Appends (W.contents to.old) (W.contents to.new) (before_last text.now (cps "stdin") classes.now begun ending ++ last_line ending)) }
 {
     if too_long(text.len()) {
-        return say_ending(to, Err(RunRefusal::TextLength));
+        return say_ending(to, Err(RunRefusal::TextLength.number()));
     }
-    let mut records: [u32; RECORDS] = buffer(0);
-    let mut payload: [u8; PAYLOAD] = buffer(0);
-    let mut out: [u8; LINES] = buffer(0);
+    let mut records = record_buffer();
+    let mut payload = payload_buffer();
+    let mut out = line_buffer();
     let ending = list_from(
         to,
         text,
@@ -128,8 +131,8 @@ pub fn list<W: Write>(to: &mut W, text: &[u8], classes: &[u8], begun: Saved) -> 
 pub fn list_input<R: Files + Input + Print>(rt: &R, begun: Saved) -> io::Result<()>
     requires { AtFirst begun }
 {
-    let mut text: [u8; SHORT_TEXT] = buffer(0);
-    let mut file: [u8; CLASSES] = buffer(0);
+    let mut text = short_text_buffer();
+    let mut file = class_buffer();
     let mut input = rt.reader();
     let length = read_full(&mut input, &mut text)?;
     let size = read_classes(rt, &mut file)?;
