@@ -108,7 +108,7 @@ fn longest_early(text: &[u8], i: usize) -> Choice
     best
 }
 
-// The longest of the early literals at i. Few bytes begin one, so the table is built only where two bytes may.
+// The longest of the early literals at i. Few bytes begin one, so the table is read only where two bytes may.
 pub fn early_literal(text: &[u8], i: usize) -> Choice
     ensures { result ≡ try_words i 1 (λ w. match_lit text.now w i) 0 (words_of early_literals) (none_at i) }
 {

@@ -71,7 +71,7 @@ fn kw_op_byte(k: usize, j: usize) -> u8
 
 // The number of the first keyword-operator word that stands at i. No such word begins another.
 pub fn kw_op_word(text: &[u8], i: usize) -> Option<usize>
-    ensures { MatchOption result (9 ≤ first_fit text.now i (numbered 0 kw_op_words)) (λ k. (k ≡ first_fit text.now i (numbered 0 kw_op_words)) × (k < 9)) }
+    ensures { MatchOption result (first_fit text.now i (numbered 0 kw_op_words) ≡ 9) (λ k. (k ≡ first_fit text.now i (numbered 0 kw_op_words)) × (k < 9)) }
 {
     'words: for k in 0..9usize {
         let n = KW_OP_LENGTHS[k];
@@ -106,7 +106,7 @@ fn kw_op_reach(a: u8) -> Option<usize>
 
 // A keyword-operator word at i with operator characters after it. Many identifiers begin with a letter that such a word
 // begins with, and few of them have an operator character where it would end: only for those, and beyond ASCII, is the table
-// built.
+// read.
 pub fn kw_op(text: &[u8], table: &[bool; 128], i: usize) -> Choice
     requires { table.now ≡ ascii_table op_char_cps }
     ensures { result ≡ try_words i 12 (λ w. match_lit text.now w i then plus is_op_char text.now) 0 kw_op_words (none_at i) }

@@ -256,15 +256,24 @@ module _ (s : Bytes) where
     unfolding first_fit
     fit_next rs k h q = rw (drop-cons rs k no_row h, add-one k) (rw (q, first_fit))
 
+    -- After the last row none is left.
+    fit_done : (rs : List Row) (k : ℕ) → length rs ≤ k → first_fit s i (drop k rs) ≡ 0
+    unfolding first_fit
+    fit_done rs k h = rw (drop_of_length-le rs {i = k} h)
+
     module _ (rs : List Row) (k : ℕ) where
       -- With a word that isn't there the search goes on at the next,
       pub next_word : k < length rs → match_lit s (word_at rs k) i ≡ None → k + first_fit s i (drop k rs) ≡ first_fit s i rs
           → k + 1 + first_fit s i (drop (k + 1) rs) ≡ first_fit s i rs
       next_word h q inv = omega (arith, inv, fit_next rs k h q)
 
-      -- with one that is it ends.
+      -- with one that is it ends,
       pub this_word : {e : ℕ} → k < length rs → match_lit s (word_at rs k) i ≡ Some e → k + first_fit s i (drop k rs) ≡ first_fit s i rs → k ≡ first_fit s i rs
       this_word h q inv = omega (arith, inv, fit_here rs k h q)
+
+      -- and after the last word too.
+      pub none_left : length rs ≤ k → k + first_fit s i (drop k rs) ≡ first_fit s i rs → k ≡ first_fit s i rs
+      none_left h inv = omega (arith, inv, fit_done rs k h)
 
     -- The word of the first that fits is there.
     pub fit_there : (rs : List Row) → first_fit s i rs < length rs → match_lit s (word_at rs (first_fit s i rs)) i ≡ Some (i + length (word_at rs (first_fit s i rs)))

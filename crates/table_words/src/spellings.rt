@@ -136,10 +136,17 @@ fn word(k: usize) -> &'static [u8]
     WORDS[k]
 }
 
+// Whether a lexeme is this word.
+pub fn spells(id: &[u8], word: &[u8]) -> bool
+    ensures { result ≡ same word.now id.now }
+{
+    id == word
+}
+
 // Whether word k is the lexeme.
 pub fn is_word(id: &[u8], k: usize) -> bool
     requires { k < 119 }
     ensures { result ≡ same (get_or words k []) id.now }
 {
-    id == word(k)
+    spells(id, word(k))
 }

@@ -19,7 +19,7 @@ returns-then-not-passes_at c =
 
 pub returns-in_default-kw_op_word : goal.returns-in_default-kw_op_word
 returns-in_default-kw_op_word c =
-    c.nothing-in_default-kw_op_word.ensures ∙ sym (kw_none _ _ c.in_default-kw_op_word.ensures)
+    c.nothing-in_default-kw_op_word.ensures ∙ sym (kw_none _ _ (omega (arith, c.in_default-kw_op_word.ensures)))
 
 pub overflow_add-i-2 : goal.overflow_add-i-2
 unfolding kw_op_rules cps encode_all encode

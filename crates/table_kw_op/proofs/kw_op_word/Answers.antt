@@ -2,7 +2,7 @@ use mathlib.Core.Path.{sym, ◌∙◌}
 use Rattle.definition.specs.Utf8.{encode, encode_all}
 use Rattle.definition.specs.Tables.{cps, kw_op_rules}
 use Rattle.match_lit.proofs.ByteLaws.{has_inside}
-use Rattle.table_words.proofs.RowLaws.{next_word, this_word}
+use Rattle.table_words.proofs.RowLaws.{next_word, this_word, none_left}
 use Rattle.table_words.proofs.TableLaws.{compared, compare_index, compare_stop, compare_on, compare_start, row_length}
 use Rattle.table_kw_op.proofs.Computed.{kw_ops, kw_short, kw_count}
 use native.Mathlib.Omega.{arith}
@@ -32,3 +32,8 @@ pub returns-in-words : goal.returns-in-words
 returns-in-words c =
     let v = c.loop-j.invariant in
     (this_word _ _ _ _ v.row (compared 6 kw_ops kw_short _ v c.loop-j-test.false) c.words.invariant, c.words-test.true)
+
+pub returns : goal.returns
+returns c =
+    let past = none_left _ _ _ _ (omega (arith, c.words-test.false, kw_count)) c.words.invariant in
+    omega (arith, past, c.words.auto.k-end, c.words-test.false)
