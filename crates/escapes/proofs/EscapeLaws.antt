@@ -3,11 +3,12 @@ use Rattle.std.specs.Prelude.{Some, None}
 use Prim.Native.Nat.{ℕ, ◌+◌, ◌≤◌, ◌<◌}
 use mathlib.Core.Path.{◌≡◌, sym, ap, ◌∙◌}
 use mathlib.Core.Bool.{true, false}
+use mathlib.Core.List.{List, [], ◌∷◌}
 use native.Mathlib.Omega.{arith}
 use lib.Dec.{eqb}
 use lib.ListN.{length, get_or}
 use borrow.Author.Tests.{lt-ltb, le-ltb, eq-eqb, ne_eqb}
-use Rattle.definition.specs.Basics.{Bytes}
+use Rattle.definition.specs.Basics.{Bytes, codes}
 use Rattle.definition.specs.Utf8.{sequence_at}
 use Rattle.definition.specs.Text.{with_char, byte, byte_has, byte_is}
 use Rattle.definition.specs.Escapes.{code_at, unescape}
@@ -80,3 +81,24 @@ module _ (s : Bytes) (i : ℕ) where
     unfolding unescape escaped
     unescape_slash c q =
         simp (unescape, escaped, is_slash, is_read s (i + 1) c 48 q, is_read s (i + 1) c 98 q, is_read s (i + 1) c 116 q, is_read s (i + 1) c 110 q, is_read s (i + 1) c 118 q, is_read s (i + 1) c 102 q, is_read s (i + 1) c 114 q, is_read s (i + 1) c 117 q, is_read s (i + 1) c 120 q)
+
+-- ---- a byte that is none of the letters
+
+-- x is none of the numbers, the first of which was asked last
+abbrev pub Spared : List ℕ → ℕ → Type 0
+Spared [] x = Unit {0}
+Spared (k ∷ ks) x = Spared ks x × (x ≡ k → ⊥)
+
+-- Such a byte stands for the character that begins with it.
+pub escaped_other : (s : Bytes) (i c : ℕ) → Spared (codes "xurfvntb0") c → escaped s i c ≡ code_at s (i + 1)
+unfolding escaped
+escaped_other s i c x =
+    let u = x.0 in
+    let r = u.0 in
+    let f = r.0 in
+    let v = f.0 in
+    let n = v.0 in
+    let t = n.0 in
+    let b = t.0 in
+    let o = b.0 in
+    simp (escaped, ne_eqb c 48 o.1, ne_eqb c 98 b.1, ne_eqb c 116 t.1, ne_eqb c 110 n.1, ne_eqb c 118 v.1, ne_eqb c 102 f.1, ne_eqb c 114 r.1, ne_eqb c 117 u.1, ne_eqb c 120 x.1)

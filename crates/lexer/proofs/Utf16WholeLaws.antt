@@ -1,7 +1,7 @@
 -- The whole second run: refused, or its items. Rests on the laws of what it does (crate `laws_utf16`), and on those of the first run from
 -- the same nine numbers.
 use Prim.Native.Nat.{ℕ}
-use mathlib.Core.Path.{◌≡◌, refl, sym, ap, subst}
+use mathlib.Core.Path.{◌≡◌, refl, sym, ap, subst, ◌∙◌}
 use mathlib.Core.List.{List}
 use mathlib.Core.Logic.{inl, inr}
 use borrow.Author.Tests.{ne_eqb}
@@ -31,10 +31,10 @@ module _ (s name f : Bytes) (g : Utf16State) where
     pub refuses_whole : RefusedOrCounted s name f g rs ps (utf16_answer (n, o) 0 0 g, rs, ps)
     refuses_whole = inl (record { number = h; count = refl; stop = refl; state = refl; records = refl; payload = refl })
 
-  module _ (e : ◌≡◌ {A = ℕ × ℕ} (0, 0) (utf16_refusal s name f g)) where
+  module _ {n o : ℕ} (e : ◌≡◌ {A = ℕ × ℕ} (n, o) (utf16_refusal s name f g)) (z : n ≡ 0) where
     -- what isn't refused isn't refused by the definition,
     pub runs_taken : (utf16_refusal s name f g).0 ≡ 0
-    runs_taken = ap (λ (p : ℕ × ℕ). p.0) (sym e)
+    runs_taken = ap (λ (p : ℕ × ℕ). p.0) (sym e) ∙ z
 
     first_taken : (refusal s name f g.first).0 ≡ 0
     first_taken = (refusal_taken s name f g runs_taken).first

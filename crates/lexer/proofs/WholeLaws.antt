@@ -1,10 +1,10 @@
 -- The whole run: refused, or its items. Rests on what a run that isn't refused was given, and on the laws of what it does, of what is
 -- counted of its text (K4) and of demand 3.
 use Prim.Native.Nat.{ℕ}
-use mathlib.Core.Path.{◌≡◌, refl, sym, ap, subst}
+use mathlib.Core.Path.{◌≡◌, refl, sym, ap, subst, ◌∙◌}
 use mathlib.Core.List.{List}
 use mathlib.Core.Logic.{inl, inr}
-use borrow.Author.Tests.{ne_eqb}
+use borrow.Author.Tests.{eq-eqb, ne_eqb}
 use Rattle.definition.specs.Basics.{Bytes}
 use Rattle.definition.specs.Run.{Outcome, refusal, refused, run_items, run}
 use Rattle.definition.specs.Reading.{EveryReading}
@@ -29,9 +29,9 @@ module _ (s name f : Bytes) (st : State) where
     pub refuses_whole : RefusedOrCounted s name f st rs ps (refused (n, o) st, rs, ps)
     refuses_whole = inl (record { number = h; count = refl; stop = refl; state = refl; records = refl; payload = refl })
 
-  module _ (e : ◌≡◌ {A = ℕ × ℕ} (0, 0) (refusal s name f st)) where
+  module _ {n o : ℕ} (e : ◌≡◌ {A = ℕ × ℕ} (n, o) (refusal s name f st)) (z : n ≡ 0) where
     taken : (refusal s name f st).0 ≡ 0
-    taken = ap (λ (p : ℕ × ℕ). p.0) (sym e)
+    taken = ap (λ (p : ℕ × ℕ). p.0) (sym e) ∙ z
 
     -- what isn't refused was given what a run asks for,
     pub runs_accepted : Accepted s name f st
@@ -49,7 +49,7 @@ module _ (s name f : Bytes) (st : State) where
       -- it is a run of items,
       pub run_runs : x ≡ run s name f st rs ps
       unfolding run
-      run_runs = rw (run, ← e) q
+      run_runs = rw (run, ← e, eq-eqb n 0 z) q
 
       -- and has written whole ones
       pub runs_counted : RefusedOrCounted s name f st rs ps x

@@ -7,14 +7,14 @@ use Rattle.std.specs.Ordering.{nat_cmp, ord_max}
 use Rattle.std.proofs.lemmas.Grind.{common_steps}
 use Prim.Native.Nat.{ℕ, ◌+◌, ◌≤◌, ◌<◌}
 use mathlib.Core.Path.{◌≡◌, refl, ◌∙◌}
-use mathlib.Core.Bool.{Bool, true, false, ◌&&◌}
+use mathlib.Core.Bool.{Bool, true, false, ◌&&◌, ◌||◌}
 use native.Mathlib.Numerals.{add-one}
 use native.Mathlib.Omega.{arith}
-use lib.Dec.{eqb}
+use lib.Dec.{leb, eqb}
 use lib.ListN.{length, get_or, drop, drop_of_length-le}
 use lib.Seq.{drop-cons}
-use borrow.Author.Tests.{lt-ltb, le-ltb, le-leb, lt-leb}
-use Rattle.definition.specs.Basics.{Bytes, ch}
+use borrow.Author.Tests.{lt-ltb, le-ltb, le-leb, lt-leb, eq-eqb, ne_eqb}
+use Rattle.definition.specs.Basics.{Bytes, ch, between}
 use Rattle.definition.specs.Text.{byte_has, byte_is}
 use Rattle.definition.specs.Matchers.{only, later, match_lit, no_comment}
 use Rattle.lemmas.proofs.Cases.{tests, both, by_order}
@@ -40,6 +40,24 @@ module _ (p : ℕ → Bool) (s : Bytes) (i : ℕ) where
 -- Where two bytes stand the second is one of the text's too.
 pub twice_inside : (b : ℕ) (s : Bytes) (i : ℕ) → byte_is b s i && byte_is b s (i + 1) ≡ true → i + 1 < length s
 twice_inside b s i e = has_inside (λ x. eqb x b) s (i + 1) (both (byte_is b s i) (byte_is b s (i + 1)) e).1
+
+module _ (s : Bytes) (i a b : ℕ) (h : i < length s) where
+  -- A byte that is the first of two is one of them.
+  pub either_first : get_or s i 0 ≡ a → byte_has (λ c. eqb c a || eqb c b) s i ≡ true
+  either_first e = has_within (λ c. eqb c a || eqb c b) s i h ∙ rw (eq-eqb (get_or s i 0) a e)
+
+  -- One that isn't is, if it is the second.
+  pub either_second : (get_or s i 0 ≡ a → ⊥) → byte_has (λ c. eqb c a || eqb c b) s i ≡ eqb (get_or s i 0) b
+  either_second n = has_within (λ c. eqb c a || eqb c b) s i h ∙ rw (ne_eqb (get_or s i 0) a n)
+
+module _ (a b c : ℕ) where
+  -- A byte below a range isn't in it.
+  pub between_below : c < a → between a b c ≡ false
+  between_below h = rw (lt-leb a c h)
+
+  -- One that isn't below is, if it isn't above.
+  pub between_from : a ≤ c → between a b c ≡ leb c b
+  between_from h = rw (le-leb a c h)
 
 -- What a test lets pass, as code says it, and as the definition does.
 pub then_only : (t : Bool) (e : ℕ) → then_some t e ≡ only t (Some e)

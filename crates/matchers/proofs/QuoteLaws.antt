@@ -142,9 +142,19 @@ pub one_tick : (s : Bytes) (i : ℕ) → one (goes_on (ch "`") (ch "`")) s i ≡
 one_tick s i = ap (λ (p : ℕ → Bool). one p s i) (fun_ext ticks_run)
 
 -- A backtick stands in no part.
-ticks_tick : (c : ℕ) → c ≡ ch "`" → in_backticks c ≡ false
+pub ticks_tick : (c : ℕ) → c ≡ ch "`" → in_backticks c ≡ false
 unfolding in_backticks
 ticks_tick c e = rw (eq-eqb c (ch "`") e)
+
+-- Nor does a line end.
+pub ticks_newline : (c : ℕ) → is_newline_char c ≡ true → in_backticks c ≡ false
+unfolding in_backticks
+ticks_newline c e = rw e (and_false (not (eqb c (ch "`"))))
+
+-- Any other character may.
+pub ticks_yes : (c : ℕ) → (c ≡ ch "`" → ⊥) → is_newline_char c ≡ false → in_backticks c ≡ true
+unfolding in_backticks
+ticks_yes c n e = rw (ne_eqb c (ch "`") n, e)
 
 module _ (s : Bytes) (j : ℕ) where
   -- At a backtick a part is what stands after it.
@@ -193,11 +203,11 @@ module _ (s : Bytes) (j : ℕ) where
       first None b = second b
 
   -- After a part the loop goes on.
-  ident_on : {k : ℕ} (n : ℕ) → backtick_part s j ≡ Some k → backtick_from s (j, n) ≡ backtick_from s (k, n + 1)
+  pub ident_on : {k : ℕ} (n : ℕ) → backtick_part s j ≡ Some k → backtick_from s (j, n) ≡ backtick_from s (k, n + 1)
   ident_on n e = backtick_unroll s (j, n) ∙ ap (λ (t : Turn (ℕ × ℕ) (Option ℕ)). says t (backtick_from s)) (turn_is n ∙ ap (part_turn n) e)
 
   -- Where there is none it ends.
-  ident_end : (n : ℕ) → backtick_part s j ≡ None → backtick_from s (j, n) ≡ only (ltb 0 n && twice) (Some (j + 2))
+  pub ident_end : (n : ℕ) → backtick_part s j ≡ None → backtick_from s (j, n) ≡ only (ltb 0 n && twice) (Some (j + 2))
   ident_end n e = backtick_unroll s (j, n) ∙ ap (λ (t : Turn (ℕ × ℕ) (Option ℕ)). says t (backtick_from s)) (turn_is n ∙ ap (part_turn n) e)
 
   -- A part ends past its start, within the text.
@@ -223,11 +233,17 @@ module _ (s : Bytes) (i : ℕ) where
   pub ident_no : byte_is (ch "`") s i && byte_is (ch "`") s (i + 1) ≡ false → match_backtick_ident s i ≡ None
   ident_no t = backtick_is s i ∙ rw t
 
-  module _ (t : byte_is (ch "`") s i && byte_is (ch "`") s (i + 1) ≡ true) where
-    -- Nor is there one without a part after them.
-    pub ident_empty : backtick_part s (i + 2) ≡ None → match_backtick_ident s i ≡ None
-    ident_empty e = backtick_is s i ∙ rw t (ident_end s (i + 2) 0 e)
+  module _ (j n : ℕ) (t : byte_is (ch "`") s i && byte_is (ch "`") s (i + 1) ≡ true) (q : backtick_from s (j, n) ≡ backtick_from s (i + 2, 0))
+      (e : backtick_part s j ≡ None) where
+    -- With them it ends where the loop's last part does.
+    ident_is : match_backtick_ident s i ≡ only (ltb 0 n && (byte_is (ch "`") s j && byte_is (ch "`") s (j + 1))) (Some (j + 2))
+    ident_is = backtick_is s i ∙ rw t (sym q ∙ ident_end s j n e)
 
+    -- A name has a part.
+    pub ident_empty : n ≡ 0 → match_backtick_ident s i ≡ None
+    ident_empty h = ident_is ∙ rw h
+
+  module _ (t : byte_is (ch "`") s i && byte_is (ch "`") s (i + 1) ≡ true) where
     -- With one it goes on to the two backticks after the last part.
     pub ident_ends : (j : ℕ) → PartsTo s i j → backtick_part s j ≡ None → {m : Option ℕ} {b : Bool} → m ≡ then_some b (j + 2)
         → b ≡ byte_is (ch "`") s j && byte_is (ch "`") s (j + 1) → m ≡ match_backtick_ident s i

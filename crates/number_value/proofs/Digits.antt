@@ -160,9 +160,15 @@ module _ {n : ℕ} {d : Bytes} {left at : ℕ} {l : Bytes} (s : Showing n d left
         written = digit_written (show (left / 10)) x e;
       }
 
-  -- Where more than one digit is left the number is 10 or more, and there is a place for its last.
-  pub showing_room : 1 < at → (10 ≤ left) × (at ≤ length d)
+  -- There is a place for a digit more.
+  pub showing_room : 10 ≤ left → (1 ≤ at) × (at ≤ length d)
   showing_room h =
+      let e = show_more left h in
+      (omega (arith, digit_place (show (left / 10)) (48 + left % 10) e), digit_room (show (left / 10)) (48 + left % 10) e)
+
+  -- Where more than one digit is left the number is 10 or more, and there is a place for its last.
+  pub showing_more : 1 < at → (10 ≤ left) × (at ≤ length d)
+  showing_more h =
       by_order left 10
       (λ l. absurd (omega (arith, s.place, ap length (show_last left l))))
       (λ l. (l, digit_room (show (left / 10)) (48 + left % 10) (show_more left l)))

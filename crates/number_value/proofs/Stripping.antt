@@ -7,15 +7,40 @@ use Rattle.std.specs.List.{position, position_or_len, prefix_len}
 use Prim.Native.Nat.{ℕ, suc, ◌+◌, ◌-◌, ◌≤◌, ◌<◌}
 use mathlib.Core.Path.{◌≡◌, refl, sym, ap, ◌∙◌}
 use mathlib.Core.Bool.{Bool, true, false}
-use mathlib.Core.List.{[], ◌∷◌, ◌++◌}
+use mathlib.Core.List.{List, [], ◌∷◌, ◌++◌}
+use mathlib.Core.Logic.{⊎_elim, inl, inr}
 use native.Mathlib.Omega.{arith}
+use types.Run.{OneOf}
 use lib.ListN.{length, get_or, take, drop, length-drop}
 use lib.Seq.{take-suc, take-length}
 use Rattle.std.proofs.lemmas.List.{drop-take}
-use Rattle.definition.specs.Basics.{Bytes}
+use Rattle.definition.specs.Basics.{Bytes, codes, mem_cp}
 use Rattle.definition.specs.Numbers.{strips, strip_left, strip_if_last, strip_right, clean_number}
 use Rattle.lemmas.proofs.Cases.{by_bool, by_order}
+use Rattle.lemmas.proofs.Members.{mem_yes, mem_no}
 use Rattle.number_value.specs.CleaningContracts.{LeftStripped, RightStripped, Cleaned}
+
+-- ---- the letters
+
+-- The letters but the last two, in the order of their numbers.
+abbrev pub letters : List ℕ
+letters = codes "ILNUlnsu"
+
+-- Each of those goes.
+pub strips_letter : (b : ℕ) → OneOf letters b → strips b ≡ true
+unfolding strips mem_cp
+strips_letter b h = mem_yes letters (codes "uzyslLUnIN") b refl h
+
+-- So do y and z.
+pub strips_last : (b : ℕ) → 121 ≤ b → b < 123 → strips b ≡ true
+unfolding strips mem_cp
+strips_last b h k =
+    mem_yes (codes "yz") (codes "uzyslLUnIN") b refl (by_order b 122 (λ l. inl (omega arith)) (λ l. inr (omega arith)))
+
+-- No other byte does.
+pub strips_none : (b : ℕ) → (OneOf letters b → ⊥) → (b ≡ 121 → ⊥) → (b ≡ 122 → ⊥) → strips b ≡ false
+unfolding strips mem_cp
+strips_none b h y z = mem_no (121 ∷ 122 ∷ letters) (codes "uzyslLUnIN") b refl (⊎_elim y (⊎_elim z h))
 
 -- ---- from the left: what is left begins at the first byte that stays
 

@@ -5,19 +5,40 @@ use Prim.Native.Nat.{ℕ, ◌+◌, ◌-◌, ◌*◌, ◌≤◌, ◌<◌}
 use mathlib.Core.Path.{◌≡◌, refl, sym, ap, ◌∙◌}
 use mathlib.Core.Bool.{Bool, true, false, ◌||◌}
 use mathlib.Core.List.{[], ◌∷◌}
+use mathlib.Core.Logic.{⊎_elim, inl, inr}
 use native.Mathlib.Nat.{mul-le-mul, mul-le-mul_left}
 use native.Mathlib.Numerals.{add-one}
 use native.Mathlib.Omega.{arith}
+use types.Run.{OneOf}
 use lib.Dec.{ltb, eqb}
 use lib.ListN.{length, get_or, drop, drop_of_length-le}
 use lib.Seq.{drop-cons}
-use borrow.Author.Tests.{lt-ltb, le-ltb, eq-eqb, ne_eqb}
+use borrow.Author.Tests.{lt-ltb, le-ltb, lt-leb, eq-eqb, ne_eqb}
 use Rattle.definition.specs.Basics.{Bytes, ch, between}
 use Rattle.definition.specs.Numbers.{digit_value, value_from, base_of, after_zero, int_of_string}
 use Rattle.lemmas.proofs.Cases.{by_order, by_equal}
 use Rattle.number_value.specs.NumeralContracts.{Base}
 
 -- ---- bases
+
+-- A capital or a small letter, as a `match` finds it.
+pub base_16 : (b : ℕ) → OneOf (88 ∷ 120 ∷ []) b → base_of b ≡ 16
+unfolding base_of
+base_16 b h = ⊎_elim (λ e. ap base_of e) (λ e. ap base_of e) h
+
+pub base_8 : (b : ℕ) → OneOf (79 ∷ 111 ∷ []) b → base_of b ≡ 8
+unfolding base_of
+base_8 b h = ⊎_elim (λ e. ap base_of e) (λ e. ap base_of e) h
+
+pub base_2 : (b : ℕ) → OneOf (66 ∷ 98 ∷ []) b → base_of b ≡ 2
+unfolding base_of
+base_2 b h = ⊎_elim (λ e. ap base_of e) (λ e. ap base_of e) h
+
+-- Any other byte names none.
+pub base_none : (b : ℕ) → (OneOf (88 ∷ 120 ∷ []) b → ⊥) → (OneOf (79 ∷ 111 ∷ []) b → ⊥) → (OneOf (66 ∷ 98 ∷ []) b → ⊥) → base_of b ≡ 0
+unfolding base_of
+base_none b x o d =
+    simp (ne_eqb b 120 (λ e. x (inr e)), ne_eqb b 88 (λ e. x (inl e)), ne_eqb b 111 (λ e. o (inr e)), ne_eqb b 79 (λ e. o (inl e)), ne_eqb b 98 (λ e. d (inr e)), ne_eqb b 66 (λ e. d (inl e)), base_of)
 
 -- A letter that names a base names one whose digits can be read.
 pub base_named : (b : ℕ) → (base_of b ≡ 0 → ⊥) → Base (base_of b)
@@ -34,6 +55,19 @@ base_named b h = record {
     go false false false = omega arith
 
 -- ---- what is read
+
+-- Nothing is worth nothing.
+pub int_empty : (s : Bytes) → length s ≡ 0 → int_of_string s ≡ 0
+unfolding int_of_string
+int_empty [] h = refl
+int_empty (b ∷ l) h = absurd (omega arith)
+
+-- A 0 alone.
+pub int_zero : (s : Bytes) → length s ≡ 1 → get_or s 0 0 ≡ 48 → int_of_string s ≡ 0
+unfolding int_of_string after_zero
+int_zero [] h e = absurd (omega arith)
+int_zero (b ∷ []) h e = rw (int_of_string, eq-eqb b 48 e)
+int_zero (b ∷ d ∷ l) h e = absurd (omega arith)
 
 -- A first 0 adds nothing to decimal digits.
 zero_first : (l : Bytes) → value_from 10 0 (48 ∷ l) ≡ value_from 10 0 l
@@ -82,6 +116,13 @@ digit_small b d e = rw e (go (between (ch "0") (ch "9") b) (between (ch "a") (ch
     go true u = omega arith
     go false true = omega arith
     go false false = omega arith
+
+-- A byte below the digits adds nothing.
+pub digit_below : (b : ℕ) → b < 48 → 0 ≡ digit_value b
+unfolding digit_value
+digit_below b h =
+    let k : b < 97 = omega arith in
+    simp (digit_value, lt-leb 48 b h, lt-leb 97 b k) (omega arith)
 
 -- Digits never make a value smaller.
 value_grows : (base n : ℕ) (l : Bytes) → 1 ≤ base → n ≤ value_from base n l

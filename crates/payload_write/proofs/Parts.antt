@@ -2,8 +2,10 @@
 use Prim.Native.Nat.{ℕ, suc, ◌+◌, ◌-◌, ◌≤◌, ◌<◌}
 use mathlib.Core.Path.{◌≡◌, ap, ◌∙◌}
 use mathlib.Core.List.{List, [], ◌∷◌, ◌++◌}
+use native.Mathlib.Nat.{le_refl}
 use native.Mathlib.Omega.{arith}
 use lib.ListN.{length, drop, set, length-set}
+use lib.Seq.{slice, take_all}
 use borrow.Rule.Slice.PartMut.{mid_of, put_mid}
 use Rattle.definition.specs.Basics.{Bytes}
 use Rattle.definition.specs.Run.{put}
@@ -30,6 +32,10 @@ on_both_sides l tail vs x y n q h e =
     ap (λ (m : List ℕ). set m (1 + n) y) (in_front l tail vs x (omega arith) e)
     ∙ ap (λ (i : ℕ). set (over (x ∷ vs) l) i y) k
     ∙ write_on (x ∷ vs) l y (omega arith)
+
+-- all of some bytes
+pub whole : (s l : Bytes) → over (slice 0 (length s) s) l ≡ over s l
+whole s l = ap (λ (t : Bytes). over t l) (take_all (length s) s (le_refl (length s)))
 
 -- all of some bytes, copied to the front
 pub copied : {w vs : Bytes} (l : Bytes) → w ≡ vs → w ++ drop (length vs) l ≡ over vs l

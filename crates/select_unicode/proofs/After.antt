@@ -1,19 +1,26 @@
--- An identifier beyond ASCII leaves the later places out. Rests on the definitions alone.
+-- Where no keyword operator stands, and that an identifier beyond ASCII leaves the later places out. Rests on the definitions alone.
 use Rattle.std.specs.Prelude.{Some}
 use Prim.Native.Nat.{ℕ, ◌≤◌}
 use native.Mathlib.Omega.{arith}
-use mathlib.Core.Path.{◌≡◌, sym, ap, ◌∙◌}
+use mathlib.Core.Path.{◌≡◌, refl, sym, ap, ◌∙◌}
 use mathlib.Core.Bool.{Bool, true, false}
-use borrow.Author.Tests.{le-ltb}
+use lib.Dec.{eqb}
+use borrow.Author.Tests.{eqb-true, le-ltb}
 use Rattle.definition.specs.Basics.{Bytes}
 use Rattle.definition.specs.Text.{star}
 use Rattle.definition.specs.Chars.{is_anywhite, is_newline_char, is_ident_start, is_constructor_start, is_ident_char, is_uoperator}
 use Rattle.definition.specs.Matchers.{only}
 use Rattle.definition.specs.Select.{none_at, keep, found}
 use Rattle.definition.specs.declared.Choice.{Choice}
-use Rattle.lemmas.proofs.Cases.{by_if_lt}
+use Rattle.lemmas.proofs.Cases.{by_test, by_if_lt}
 use Rattle.laws_progress.proofs.Walks.{walk_forward, star_walks}
 use Rattle.select_places.specs.Groups.{◌or◌, alone, quantified, at_beyond_ascii}
+
+-- Where c is neither ∀ nor ∃, no keyword operator is tried.
+pub quantified_no : (s : Bytes) (i c : ℕ) → (c ≡ 0x2200 → ⊥) → (c ≡ 0x2203 → ⊥) → quantified s i c ≡ none_at i
+quantified_no s i c a b =
+    by_test (λ (k : Choice). k ≡ none_at i) (eqb c 0x2200) (λ e. absurd (a (eqb-true c 0x2200 e))) λ _.
+    by_test (λ (k : Choice). k ≡ none_at i) (eqb c 0x2203) (λ e. absurd (b (eqb-true c 0x2203 e))) λ _. refl
 
 -- ---- identifiers
 

@@ -1,13 +1,15 @@
--- A state passes the test exactly if it is sound in every clause. Rests on nothing but the definition.
-use Prim.Native.Nat.{◌+◌, ◌≤◌}
+-- A state passes the test exactly if it is sound in every clause, and the byte test of `at_character`. Rests on nothing but the definition.
+use Prim.Native.Nat.{ℕ, ◌+◌, ◌≤◌, ◌<◌}
 use mathlib.Core.Path.{◌≡◌}
 use mathlib.Core.Bool.{true, ◌&&◌}
-use lib.Dec.{leb, eqb}
-use borrow.Author.Tests.{le-leb, leb-true, eq-eqb, eqb-true, eqb-false}
+use lib.Dec.{leb, eqb, ltb}
+use lib.ListN.{length, get_or}
+use borrow.Author.Tests.{le-leb, leb-true, eq-eqb, eqb-true, eqb-false, lt-ltb}
 use Rattle.definition.specs.Basics.{Bytes}
+use Rattle.definition.specs.Position.{is_continuation}
 use Rattle.definition.specs.State.{at_character, offsets_sound, counts_sound, depth_sound, comment_sound, sound}
 use Rattle.definition.specs.declared.State.{State}
-use Rattle.lemmas.proofs.Cases.{by_if, both, both_true}
+use Rattle.lemmas.proofs.Cases.{by_if, both, both_true, ltb_leb}
 use Rattle.state.specs.Sound.{Sound}
 
 module _ (st : State) where
@@ -76,3 +78,8 @@ sound_is s st m =
         let out : st.mode ≡ 1 → ⊥ = eqb-false st.mode 1 n in
         let p = m.nowhere out in
         both_true _ _ (eq-eqb _ _ (m.level out)) (both_true _ _ (eq-eqb _ _ p.0) (eq-eqb _ _ p.1)))
+
+-- a byte of 80 or more starts a character if it is above BF
+pub above_tails : (s : Bytes) (i : ℕ) → i < length s → 0x80 ≤ get_or s i 0 → ltb 0xBF (get_or s i 0) ≡ at_character s i
+unfolding at_character is_continuation
+above_tails s i h k = rw (lt-ltb i (length s) h, le-leb 0x80 (get_or s i 0) k, at_character) (ltb_leb 0xBF (get_or s i 0))

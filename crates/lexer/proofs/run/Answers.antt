@@ -1,5 +1,6 @@
 -- A refusal alters nothing; what isn't refused is a run of items, all whole, between which nothing is lost, and at every reading position
 -- of which demand 3 holds.
+use mathlib.Core.Path.{refl}
 use Rattle.definition.proofs.Refusals.{run_refused}
 use Rattle.lemmas.proofs.Results.{handed_up}
 use Rattle.lexer.proofs.WholeLaws.{run_refuses, run_runs, runs_accepted, runs_lossless, runs_right, refuses_whole, runs_counted}
@@ -13,10 +14,10 @@ returns-in_err-refusal c =
     (record { refused_or_counted = refuses_whole _ _ _ _ r n _ _; outcome = run_refuses _ _ _ _ r n _ _; nothing_lost = (λ h. absurd (n h)); every_reading = (λ h. absurd (n h)) })
 
 pub run_items-requires : goal.run_items-requires
-run_items-requires c = runs_accepted _ _ _ _ c.in_ok-refusal.ensures
+run_items-requires c = runs_accepted _ _ _ _ c.in_ok-refusal.ensures refl
 
 pub returns : goal.returns
 returns c =
     let r = c.in_ok-refusal.ensures in
     let q = c.run_items.ensures in
-    record { refused_or_counted = runs_counted _ _ _ _ r _ _ _ q; outcome = run_runs _ _ _ _ r _ _ _ q; nothing_lost = (λ _. runs_lossless _ _ _ _ r); every_reading = (λ _. runs_right _ _ _ _ r) }
+    record { refused_or_counted = runs_counted _ _ _ _ r refl _ _ _ q; outcome = run_runs _ _ _ _ r refl _ _ _ q; nothing_lost = (λ _. runs_lossless _ _ _ _ r refl); every_reading = (λ _. runs_right _ _ _ _ r refl) }

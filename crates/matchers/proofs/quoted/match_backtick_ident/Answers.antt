@@ -1,4 +1,4 @@
-use mathlib.Core.Path.{sym, ◌∙◌}
+use mathlib.Core.Path.{refl, sym, ◌∙◌}
 use Rattle.match_lit.proofs.ByteLaws.{twice_inside}
 use Rattle.matchers.proofs.QuoteLaws.{ident_no, ident_empty, ident_ends, parts_first, parts_next, part_past}
 use native.Mathlib.Omega.{arith}
@@ -13,7 +13,7 @@ overflow_add-i c = omega (arith, twice_inside _ _ _ (sym c.byte_pair.ensures ∙
 pub returns-in_err-end : goal.returns-in_err-end
 returns-in_err-end c =
     c.from_residual.ensures
-    ∙ sym (ident_empty _ _ (sym c.byte_pair.ensures ∙ c.if-not-byte_pair.false) (sym c.backtick_part.ensures ∙ c.in_err-end.was))
+    ∙ sym (ident_empty _ _ _ 0 (sym c.byte_pair.ensures ∙ c.if-not-byte_pair.false) refl (sym c.backtick_part.ensures ∙ c.in_err-end.was) refl)
 
 pub loop-next-init : goal.loop-next-init
 loop-next-init c = let part = sym c.backtick_part.ensures ∙ c.in_ok-end.was in ((part_past _ _ part).1, parts_first _ _ part)

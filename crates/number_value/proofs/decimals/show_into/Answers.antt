@@ -1,12 +1,12 @@
 use native.Mathlib.Omega.{arith}
-use Rattle.number_value.proofs.Digits.{showing_starts, showing_goes_on, showing_room, showing_one, showing_ends, showing_first, showing_length}
+use Rattle.number_value.proofs.Digits.{showing_starts, showing_goes_on, showing_more, showing_one, showing_ends, showing_first, showing_length}
 use Rattle.number_value.proofs.decimals.show_into.Goals as goal
 
 pub loop-at-init : goal.loop-at-init
 loop-at-init c = showing_starts _ _ _ c.requires c.show_length-count.ensures
 
 pub loop-at-preserved : goal.loop-at-preserved
-loop-at-preserved c = showing_goes_on c.loop-at.invariant (showing_room c.loop-at.invariant c.loop-at-test.true).0
+loop-at-preserved c = showing_goes_on c.loop-at.invariant (showing_more c.loop-at.invariant c.loop-at-test.true).0
 
 pub overflow_cast-out-2 : goal.overflow_cast-out-2
 overflow_cast-out-2 c = omega (arith, showing_one c.loop-at.invariant c.loop-at-test.false)
