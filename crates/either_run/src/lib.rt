@@ -1,7 +1,8 @@
 // A run of either kind: document 01's, whose positions count characters, or document 02's second run (K2), whose positions count UTF-16
 // units. The saved state says which.
 //
-// Proved: for every input it answers what the definition's run of that kind does, and leaves both buffers so (specs/Either.antt).
+// Proved: for every input it answers what the definition's run of that kind does, and leaves both buffers so (specs/Either.antt); and what
+// a start or a run answers, as a Result, is turned into the numbers that the definition gives for it.
 // Assumed: nothing.
 #![tactic(auto)]
 
