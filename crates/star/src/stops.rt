@@ -8,12 +8,12 @@ ghost use Rattle.star.specs.Beyond.{Beyond};
 ghost use Rattle.star.specs.Stops.{goes_on, ascii_goes_on};
 ghost use Rattle.star.specs.TestLaws.{small_goes_on, ascii_inside};
 
+use crate::star_ascii;
 use crate::tests::{AsciiTest, CharTest};
-use crate::{one_char, star_ascii};
 use chars::fixed::is_newline_char;
 use definition::Sequence;
 use match_lit::beyond_ascii_at;
-use utf8::sequence_at;
+use utf8::{sequence_at, sequence_in_place};
 
 // A character that is neither `first` nor `second` nor a line's end.
 #[derive(Clone, Copy)]
@@ -27,8 +27,11 @@ impl AsciiTest for Inside {
 
     ghost small = { λ t. small_goes_on t.first t.second };
 
+    // All as a byte: by `passes_char` the loop of a line comment, whose stops are a line's end, compared with 10 twice, as a byte and as a
+    // character.
+    #[tactic(auto, unfolding(definition::specs::Chars::is_newline_char), using(lemmas::proofs::Cases::all_tests))]
     fn passes(self, b: u8) -> bool {
-        b < 0x80 && self.passes_char(b as u32)
+        b < 0x80 && b != self.first && b != self.second && b != b'\n' && b != b'\r'
     }
 }
 
@@ -42,18 +45,21 @@ impl CharTest for Inside {
     }
 }
 
-// Where the characters beyond ASCII end that stand at i and are inside a run, one after the other. A function by itself: what it needs
-// for a call of the decoder would be moved to and fro in the loop over ASCII.
+// Where the characters beyond ASCII end that stand at i and are inside a run, one after the other. A function by itself: what the
+// decoder needs would else be moved to and fro in the loop over ASCII.
 #[inline(never)]
 fn inside_beyond(text: &[u8], inside: Inside, i: usize) -> usize
     ensures { Beyond (goes_on inside.first inside.second) text.now i result }
 {
     let mut at = i;
     while beyond_ascii_at(text, at) {
-        let Some(next) = one_char(text, inside, at) else {
+        let Sequence::Char(c, width) = sequence_in_place(text, at) else {
             return at;
         };
-        at = next;
+        if !inside.passes_char(c) {
+            return at;
+        }
+        at += width;
     }
     at
 }

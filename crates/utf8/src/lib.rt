@@ -1,6 +1,6 @@
 // Decoding: which UTF-8 sequence stands at an offset of a text.
-// Proved: `sequence_at` is the definition's, at any bytes and any offset, so no caller owes anything. proofs/Laws.antt has
-// the laws of reading a text: decoding against encoding, legal texts, boundaries.
+// Proved: `sequence_in_place` and `sequence_at` are the definition's `sequence_at`, at any bytes and any offset, so no caller owes
+// anything. proofs/Laws.antt has the laws of reading a text: decoding against encoding, legal texts, boundaries.
 // Assumed: nothing.
 #![tactic(auto)]
 
@@ -36,14 +36,17 @@ fn two(x: u32, y: u32) -> Sequence
     Sequence::Bad
 }
 
-// What three bytes with the bits of c are: no code point that fewer bytes have, and no surrogate.
+// What three bytes with the bits of c are: no code point that fewer bytes have, and no surrogate. An arm for each range stays a branch;
+// without branches the width is worked out from the bits, and the next character waits for it.
 #[tactic(auto, unfolding(definition::specs::Utf8::three_bytes), using(lemmas::proofs::Cases::tests))]
 fn three_bytes(c: u32) -> Sequence
     ensures { result ≡ three_bytes c }
 {
     match c {
-        0x800..=0xD7FF | 0xE000.. => Sequence::Char(c, 3),
-        _ => Sequence::Bad,
+        0..=0x7FF => Sequence::Bad,
+        0x800..=0xD7FF => Sequence::Char(c, 3),
+        0xD800..=0xDFFF => Sequence::Bad,
+        0xE000.. => Sequence::Char(c, 3),
     }
 }
 
@@ -82,9 +85,11 @@ fn four(x: u32, y: u32, z: u32, t: u32) -> Sequence
     four_bytes(x * 262144 + y * 4096 + z * 64 + t)
 }
 
-// What stands at i: a character and its width, bytes that no legal sequence starts, or the end.
+// What stands at i: a character and its width, bytes that no legal sequence starts, or the end. In place at its call, for a loop over
+// characters that has nothing else to do: it saves a call for each, and an answer that goes through memory.
+#[inline(always)]
 #[tactic(auto, unfolding(definition::specs::Utf8::sequence), using(lemmas::proofs::Cases::tests, crate::proofs::Reading::read_within, crate::proofs::Reading::read_end))]
-pub fn sequence_at(text: &[u8], i: usize) -> Sequence
+pub fn sequence_in_place(text: &[u8], i: usize) -> Sequence
     ensures { result ≡ sequence_at text.now i }
 {
     if text.len() <= i {
@@ -110,4 +115,11 @@ pub fn sequence_at(text: &[u8], i: usize) -> Sequence
         return four((first - 0xF0) as u32, second, third, fourth);
     }
     Sequence::Bad
+}
+
+// The same as a function by itself, whose code stands once.
+pub fn sequence_at(text: &[u8], i: usize) -> Sequence
+    ensures { result ≡ sequence_at text.now i }
+{
+    sequence_in_place(text, i)
 }
