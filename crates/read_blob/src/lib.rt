@@ -80,7 +80,9 @@ fn blob_move(text: &[u8], i: usize) -> Move
     Move::Close(e)
 }
 
-// What stands at i in another language's text, which ends with the text.
+// What stands at i in another language's text, which ends with the text. A function by itself: in place the loop of its run has jumps
+// over the whole reading, which are long ones.
+#[inline(never)]
 fn lang_move(text: &[u8], i: usize) -> Move
     ensures { result ≡ lang_move text.now i }
 {
